@@ -1,0 +1,47 @@
+-- What one field of a line, a header or a row may hold, and where it stands. Positions count from 1; text is
+-- ISO 8859-1, so '0' is 48 and ' ' is 32. Assumes nothing.
+use Prim.Native.Nat.{ℕ, _+_, _*_, _-_, _/_}
+use mathlib.Core.Bool.{Bool, _&&_, _||_}
+use mathlib.Core.List.{List, [], _∷_}
+use lib.Dec.{leb}
+use lib.ListN.{length, take, drop}
+use Rattle.theory.specs.Same.{mem}
+use Rattle.theory.specs.Parts.{chop}
+
+-- positions `from` to `to`; what lies behind the end of a text that is too short is missing
+unfoldable pub field : ℕ → ℕ → List ℕ → List ℕ
+field from to text = take (to + 1 - from) (drop (from - 1) text)
+
+abbrev pub between : ℕ → ℕ → ℕ → Bool
+between lo hi b = leb lo b && leb b hi
+
+-- 0 to 9
+abbrev pub digit : ℕ → Bool
+digit = between 48 57
+
+-- the digit 0, which is a missing number and a filler
+abbrev pub zero : ℕ → Bool
+zero = between 48 48
+
+abbrev pub blank : ℕ → Bool
+blank = between 32 32
+
+-- A to Z
+abbrev pub capital : ℕ → Bool
+capital = between 65 90
+
+-- 0 to 9, A to F
+abbrev pub hex : ℕ → Bool
+hex b = between 48 57 b || between 65 70 b
+
+-- the number that digits write, behind the number n
+unfoldable pub numberAfter : ℕ → List ℕ → ℕ
+numberAfter n [] = n
+numberAfter n (x ∷ xs) = numberAfter (n * 10 + (x - 48)) xs
+
+unfoldable pub number : List ℕ → ℕ
+number = numberAfter 0
+
+-- one of the entries of a table, which stand one behind the other, each `width` bytes long
+unfoldable pub listed : ℕ → List ℕ → List ℕ → Bool
+listed width table f = mem f (chop width (length table / width) table)

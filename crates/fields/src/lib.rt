@@ -1,0 +1,156 @@
+// What one field may hold. Every function takes a slice of any length: a field of another length than asked is
+// simply not in form.
+ghost use mathlib.Core.Path.{_≡_};
+ghost use Prim.Native.Nat.{_+_, _-_, _≤_, _<_};
+ghost use lib.ListN.{length};
+ghost use Rattle.theory.specs.Same.{eqs};
+ghost use Rattle.theory.specs.Every.{all, run};
+ghost use Rattle.fields.specs.Field.{field, between, digit, zero, blank, capital, hex, number, listed};
+
+// Positions `from` to `to` of a text, counted from 1.
+pub fn field<'a>(text: &'a [u8], from: usize, to: usize) -> &'a [u8]
+    requires { ⌜ (1 ≤ from) × (from ≤ to) ⌝ }
+    ensures { λ r. ⌜ now r ≡ field from to (now (text .entry)) ⌝ }
+{
+    if text.len() < from {
+        return &text[0..0];
+    }
+    let start = from - 1;
+    if text.len() < to {
+        return &text[start..];
+    }
+    &text[start..to]
+}
+
+pub fn same(a: &[u8], b: &[u8]) -> bool
+    ensures { λ r. ⌜ r ≡ eqs (now (a .entry)) (now (b .entry)) ⌝ }
+{
+    if a.len() != b.len() {
+        return false;
+    }
+    let mut i: usize = 0;
+    while i < a.len() {
+        if a[i] != b[i] {
+            return false;
+        }
+        i += 1;
+    }
+    true
+}
+
+fn is_between(b: u8, lo: u8, hi: u8) -> bool
+    ensures { λ r. ⌜ r ≡ between lo hi b ⌝ }
+{
+    (lo <= b) & (b <= hi)
+}
+
+fn all_between(s: &[u8], lo: u8, hi: u8) -> bool
+    ensures { λ r. ⌜ r ≡ all (between lo hi) (now (s .entry)) ⌝ }
+{
+    let mut i: usize = 0;
+    while i < s.len() {
+        if !is_between(s[i], lo, hi) {
+            return false;
+        }
+        i += 1;
+    }
+    true
+}
+
+// n bytes, each from `lo` to `hi`.
+fn is_run(f: &[u8], n: usize, lo: u8, hi: u8) -> bool
+    ensures { λ r. ⌜ r ≡ run (between lo hi) n (now (f .entry)) ⌝ }
+{
+    (f.len() == n) & all_between(f, lo, hi)
+}
+
+pub fn is_digits(f: &[u8], n: usize) -> bool
+    ensures { λ r. ⌜ r ≡ run digit n (now (f .entry)) ⌝ }
+{
+    is_run(f, n, 48, 57)
+}
+
+pub fn is_zeros(f: &[u8], n: usize) -> bool
+    ensures { λ r. ⌜ r ≡ run zero n (now (f .entry)) ⌝ }
+{
+    is_run(f, n, 48, 48)
+}
+
+pub fn is_blanks(f: &[u8], n: usize) -> bool
+    ensures { λ r. ⌜ r ≡ run blank n (now (f .entry)) ⌝ }
+{
+    is_run(f, n, 32, 32)
+}
+
+pub fn is_capitals(f: &[u8], n: usize) -> bool
+    ensures { λ r. ⌜ r ≡ run capital n (now (f .entry)) ⌝ }
+{
+    is_run(f, n, 65, 90)
+}
+
+fn is_hex_digit(b: u8) -> bool
+    ensures { λ r. ⌜ r ≡ hex b ⌝ }
+{
+    is_between(b, 48, 57) | is_between(b, 65, 70)
+}
+
+fn all_hex(s: &[u8]) -> bool
+    ensures { λ r. ⌜ r ≡ all hex (now (s .entry)) ⌝ }
+{
+    let mut i: usize = 0;
+    while i < s.len() {
+        if !is_hex_digit(s[i]) {
+            return false;
+        }
+        i += 1;
+    }
+    true
+}
+
+pub fn is_hex(f: &[u8], n: usize) -> bool
+    ensures { λ r. ⌜ r ≡ run hex n (now (f .entry)) ⌝ }
+{
+    (f.len() == n) & all_hex(f)
+}
+
+// What a byte counts as a digit: 0 below '0'.
+fn value(b: u8) -> u64
+    ensures { λ r. ⌜ (r ≡ b - 48) × (r ≤ 207) ⌝ }
+{
+    if b < 48 {
+        return 0;
+    }
+    (b - 48) as u64
+}
+
+// The number that digits write. The longest number in the files, a count, has 15.
+pub fn number(f: &[u8]) -> u64
+    requires { ⌜ length (now f) ≤ 15 ⌝ }
+    ensures { λ r. ⌜ r ≡ number (now (f .entry)) ⌝ }
+{
+    let mut n: u64 = 0;
+    let mut i: usize = 0;
+    while i < f.len() {
+        n = n * 10 + value(f[i]);
+        i += 1;
+    }
+    n
+}
+
+// Is `f` an entry of a table whose entries are `width` bytes long.
+pub fn listed(f: &[u8], width: usize, table: &[u8]) -> bool
+    requires { ⌜ 0 < width ⌝ }
+    ensures { λ r. ⌜ r ≡ listed width (now (table .entry)) (now (f .entry)) ⌝ }
+{
+    let n = table.len() / width;
+    let mut i: usize = 0;
+    while i < n {
+        let at = i * width;
+        let end = at + width;
+        if same(f, &table[at..end]) {
+            return true;
+        }
+        i += 1;
+    }
+    false
+}
