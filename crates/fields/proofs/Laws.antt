@@ -27,6 +27,10 @@ module _ (text : List ℕ) (from to : ℕ) where
   unfolding field
   field-whole h = let e : to - (from - 1) ≡ to + 1 - from = omega arith in rw e
 
+-- a part to the end, as the code lends it
+pub to-end : (f : List ℕ) (k : ℕ) → take (length f - k) (drop k f) ≡ drop k f
+to-end f k = take-all (length f - k) (drop k f) (rw length-drop (omega arith))
+
 -- ---- a number, digit by digit
 
 pub record Numbering (f : List ℕ) (n i : ℕ) : Type 0 where

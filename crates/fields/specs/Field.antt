@@ -3,9 +3,10 @@
 use Prim.Native.Nat.{ℕ, _+_, _*_, _-_, _/_}
 use mathlib.Core.Bool.{Bool, _&&_, _||_}
 use mathlib.Core.List.{List, [], _∷_}
-use lib.Dec.{leb}
+use lib.Dec.{leb, ltb}
 use lib.ListN.{length, take, drop}
 use Rattle.theory.specs.Same.{mem}
+use Rattle.theory.specs.Every.{all, leading}
 use Rattle.theory.specs.Parts.{chop}
 
 -- positions `from` to `to`; what lies behind the end of a text that is too short is missing
@@ -33,6 +34,14 @@ capital = between 65 90
 -- 0 to 9, A to F
 abbrev pub hex : ℕ → Bool
 hex b = between 48 57 b || between 65 70 b
+
+-- at least one character, k in all, then blanks
+unfoldable pub filledTo : ℕ → List ℕ → Bool
+filledTo k f = leb k (length f) && ltb 0 k && all blank (drop k f)
+
+-- at least one character that passes, then blanks
+unfoldable pub filled : (ℕ → Bool) → List ℕ → Bool
+filled p f = filledTo (leading p f) f
 
 -- the number that digits write, behind the number n
 unfoldable pub numberAfter : ℕ → List ℕ → ℕ

@@ -4,8 +4,8 @@ ghost use mathlib.Core.Path.{_≡_};
 ghost use Prim.Native.Nat.{_+_, _-_, _≤_, _<_};
 ghost use lib.ListN.{length};
 ghost use Rattle.theory.specs.Same.{eqs};
-ghost use Rattle.theory.specs.Every.{all, run};
-ghost use Rattle.fields.specs.Field.{field, between, digit, zero, blank, capital, hex, number, listed};
+ghost use Rattle.theory.specs.Every.{all, run, leading};
+ghost use Rattle.fields.specs.Field.{field, between, digit, zero, blank, capital, hex, filledTo, number, listed};
 
 // Positions `from` to `to` of a text, counted from 1.
 pub fn field<'a>(text: &'a [u8], from: usize, to: usize) -> &'a [u8]
@@ -111,6 +111,30 @@ pub fn is_hex(f: &[u8], n: usize) -> bool
     ensures { λ r. ⌜ r ≡ run hex n (now (f .entry)) ⌝ }
 {
     (f.len() == n) & all_hex(f)
+}
+
+// How many digits stand in front.
+pub fn digits_in(f: &[u8]) -> usize
+    ensures { λ r. ⌜ r ≡ leading digit (now (f .entry)) ⌝ }
+{
+    let mut i: usize = 0;
+    while i < f.len() {
+        if !is_between(f[i], 48, 57) {
+            return i;
+        }
+        i += 1;
+    }
+    i
+}
+
+// At least one character, k in all, and blanks behind them.
+pub fn is_filled(f: &[u8], k: usize) -> bool
+    ensures { λ r. ⌜ r ≡ filledTo k (now (f .entry)) ⌝ }
+{
+    if f.len() < k {
+        return false;
+    }
+    (0 < k) & all_between(&f[k..], 32, 32)
 }
 
 // What a byte counts as a digit: 0 below '0'.
