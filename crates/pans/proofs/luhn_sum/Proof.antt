@@ -1,0 +1,51 @@
+-- Assumes nothing.
+use borrow.Author.Needs.{needs}
+use Prim.Native.Nat.{_-_}
+use native.Mathlib.Omega.{arith}
+use Rattle.pans.specs.Pan.{counted}
+use Rattle.pans.proofs.Laws.{digits-at, Summing, sum-start, sum-turn, sum-end}
+use Rattle.pans.proofs.luhn_sum.Statement.{statement}
+use Rattle.pans.proofs.luhn_sum.Tie as tie
+
+abbrev Inv-loop : tie.InvT-loop
+Inv-loop digits n sum₀ i₀ sum i = Summing digits sum i
+
+abbrev μ-loop : tie.MeasureT-loop
+μ-loop digits n sum₀ i₀ sum i = n - i
+
+loop-holds : tie.Need-loop-holds Inv-loop μ-loop
+loop-holds c = sum-start _
+
+sub-d : tie.Need-sub-d Inv-loop μ-loop
+sub-d c = (digits-at (c .before .before .before .before .args .digits .now) (c .before .before .loop .i) (c .before .before .before .before .pre) (omega arith)) .0
+
+cast-d : tie.Need-cast-d Inv-loop μ-loop
+cast-d c = omega (arith, (digits-at (c .before .before .before .before .args .digits .now) (c .before .before .loop .i) (c .before .before .before .before .pre) (omega arith)) .1)
+
+counted-requires : tie.Need-counted-requires Inv-loop μ-loop
+counted-requires c κs = omega (arith, (digits-at (c .before .before .before .before .args .digits .now) (c .before .before .loop .i) (c .before .before .before .before .pre) (omega arith)) .1)
+
+loop-again : tie.Need-loop-again Inv-loop μ-loop
+loop-again c = sum-turn _ _ _ _ (c .before .before .before .loop .inv) (c .before .before .loop-test .taken) (c .counted .ensures .0)
+
+returns : tie.Need-returns Inv-loop μ-loop
+returns c = sum-end _ _ _ (c .before .loop .inv) (c .loop-test .left)
+
+pub luhn-sum-spec : {M : Type 1} → statement M
+luhn-sum-spec =
+    tie.close
+    (tie.spec
+    Inv-loop
+    μ-loop
+    loop-holds
+    (λ c. search needs)
+    sub-d
+    cast-d
+    (λ c. search needs)
+    (λ c. search needs)
+    counted-requires
+    (λ c. search needs)
+    (λ c. search needs)
+    (λ c. search needs)
+    loop-again
+    returns)

@@ -1,0 +1,2 @@
+pub mod Pan
+pub mod Outcomes

@@ -1,0 +1,55 @@
+// The personal account number: its form (L1) and its Luhn sum (L5).
+ghost use mathlib.Core.Path.{_≡_};
+ghost use mathlib.Core.Bool.{true};
+ghost use Prim.Native.Nat.{_<_, _≤_, _%_};
+ghost use Rattle.theory.specs.Every.{all};
+ghost use Rattle.fields.specs.Field.{digit};
+ghost use Rattle.pans.specs.Pan.{pan, doubled, counted, luhnSum, luhn};
+
+const PAN_LENGTH: usize = 19;
+
+pub fn is_pan(f: &[u8]) -> bool
+    ensures { λ r. ⌜ r ≡ pan (now (f .entry)) ⌝ }
+{
+    (f.len() == PAN_LENGTH) & fields::is_filled(f, fields::digits_in(f))
+}
+
+fn doubled(d: u64) -> u64
+    requires { ⌜ d < 10 ⌝ }
+    ensures { λ r. ⌜ r ≡ doubled d ⌝ }
+{
+    2 * d / 10 + 2 * d % 10
+}
+
+fn counted(d: u64, behind: usize) -> u64
+    requires { ⌜ d < 10 ⌝ }
+    ensures { λ r. ⌜ (r ≡ counted d behind) × (r < 10) ⌝ }
+{
+    if behind % 2 == 1 {
+        return doubled(d);
+    }
+    d
+}
+
+// The Luhn sum, of which only the last digit is kept.
+fn luhn_sum(digits: &[u8]) -> u64
+    requires { ⌜ all digit (now digits) ≡ true ⌝ }
+    ensures { λ r. ⌜ r ≡ luhnSum (now (digits .entry)) % 10 ⌝ }
+{
+    let n = digits.len();
+    let mut sum: u64 = 0;
+    let mut i: usize = 0;
+    while i < n {
+        let d = (digits[i] - 48) as u64;
+        sum = (sum + counted(d, n - 1 - i)) % 10;
+        i += 1;
+    }
+    sum
+}
+
+pub fn is_luhn(f: &[u8]) -> bool
+    ensures { λ r. ⌜ r ≡ luhn (now (f .entry)) ⌝ }
+{
+    let k = fields::digits_in(f);
+    luhn_sum(&f[..k]) == 0
+}

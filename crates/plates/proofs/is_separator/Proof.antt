@@ -1,0 +1,30 @@
+-- Assumes nothing.
+use borrow.Author.Needs.{needs}
+use native.Mathlib.Omega.{arith}
+use Rattle.fields.specs.Field.{field}
+use Rattle.fields.specs.Laws.{field-short}
+use Rattle.plates.specs.Plate.{separator}
+use Rattle.plates.proofs.is_separator.Statement.{statement}
+use Rattle.plates.proofs.is_separator.Tie as tie
+
+number-requires : tie.Need-number-requires
+number-requires c κs = field-short 1 1 15 _ _ (c .field .ensures) (omega arith)
+
+number-requires-2 : tie.Need-number-requires-2
+number-requires-2 c κs = field-short 2 2 15 _ _ (c .field2 .ensures) (omega arith)
+
+returns : tie.Need-returns
+unfolding separator
+returns c = cc
+
+pub is-separator-spec : {M : Type 1} → statement M
+is-separator-spec =
+    tie.close
+    (tie.spec
+    (λ c κs. search needs)
+    number-requires
+    (λ c κs. search needs)
+    number-requires-2
+    (λ c κs. search needs)
+    (λ c κs. search needs)
+    returns)

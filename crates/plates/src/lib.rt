@@ -1,0 +1,338 @@
+// The license plate: its characters (L6), its nationality (L7), its separators (L10).
+ghost use mathlib.Core.Path.{_≡_};
+ghost use Prim.Native.Nat.{_+_};
+ghost use Rattle.theory.specs.Every.{leading};
+ghost use lib.Dec.{leb};
+ghost use Rattle.plates.specs.Plate.{allowed, plate, nationality, separated, separator};
+
+const PLATE_LENGTH: usize = 10;
+
+// 1 for each byte that a plate may hold.
+const ALLOWED: [u8; 256] = [
+    0,
+    0,
+    0,
+    0,
+    0,
+    0,
+    0,
+    0,
+    0,
+    0,
+    0,
+    0,
+    0,
+    0,
+    0,
+    0,
+    0,
+    0,
+    0,
+    0,
+    0,
+    0,
+    0,
+    0,
+    0,
+    0,
+    0,
+    0,
+    0,
+    0,
+    0,
+    0,
+    0,
+    0,
+    0,
+    0,
+    0,
+    0,
+    0,
+    0,
+    0,
+    0,
+    0,
+    0,
+    0,
+    0,
+    0,
+    0,
+    1,
+    1,
+    1,
+    1,
+    1,
+    1,
+    1,
+    1,
+    1,
+    1,
+    0,
+    0,
+    0,
+    0,
+    0,
+    0,
+    0,
+    1,
+    1,
+    1,
+    1,
+    1,
+    1,
+    1,
+    1,
+    1,
+    1,
+    1,
+    1,
+    1,
+    1,
+    1,
+    1,
+    1,
+    1,
+    1,
+    1,
+    1,
+    1,
+    1,
+    1,
+    1,
+    1,
+    0,
+    0,
+    0,
+    0,
+    0,
+    0,
+    1,
+    1,
+    1,
+    1,
+    1,
+    1,
+    1,
+    1,
+    1,
+    1,
+    1,
+    1,
+    1,
+    1,
+    1,
+    1,
+    1,
+    1,
+    1,
+    1,
+    1,
+    1,
+    1,
+    1,
+    1,
+    1,
+    0,
+    0,
+    0,
+    0,
+    0,
+    0,
+    0,
+    0,
+    0,
+    0,
+    0,
+    0,
+    0,
+    0,
+    0,
+    0,
+    0,
+    0,
+    0,
+    0,
+    0,
+    0,
+    0,
+    0,
+    0,
+    0,
+    0,
+    0,
+    0,
+    0,
+    0,
+    0,
+    0,
+    0,
+    0,
+    0,
+    0,
+    0,
+    0,
+    0,
+    0,
+    0,
+    0,
+    0,
+    0,
+    0,
+    0,
+    0,
+    0,
+    0,
+    0,
+    0,
+    0,
+    0,
+    0,
+    0,
+    0,
+    0,
+    0,
+    0,
+    0,
+    0,
+    0,
+    0,
+    0,
+    0,
+    0,
+    0,
+    0,
+    0,
+    0,
+    0,
+    0,
+    1,
+    0,
+    0,
+    0,
+    0,
+    0,
+    0,
+    0,
+    0,
+    0,
+    0,
+    0,
+    0,
+    0,
+    0,
+    0,
+    0,
+    0,
+    1,
+    0,
+    0,
+    0,
+    0,
+    0,
+    1,
+    0,
+    0,
+    0,
+    0,
+    0,
+    0,
+    0,
+    1,
+    0,
+    0,
+    0,
+    0,
+    0,
+    0,
+    0,
+    0,
+    0,
+    0,
+    0,
+    0,
+    0,
+    0,
+    0,
+    0,
+    0,
+    0,
+    0,
+    0,
+    0,
+    0,
+    0,
+    1,
+    0,
+    0,
+    0,
+];
+
+fn is_allowed(b: u8) -> bool
+    ensures { λ r. ⌜ r ≡ allowed b ⌝ }
+{
+    ALLOWED[b as usize] == 1
+}
+
+pub fn plate_characters(f: &[u8]) -> usize
+    ensures { λ r. ⌜ r ≡ leading allowed (now (f .entry)) ⌝ }
+{
+    let mut i: usize = 0;
+    while i < f.len() {
+        if !is_allowed(f[i]) {
+            return i;
+        }
+        i += 1;
+    }
+    i
+}
+
+pub fn is_plate(f: &[u8]) -> bool
+    ensures { λ r. ⌜ r ≡ plate (now (f .entry)) ⌝ }
+{
+    (f.len() == PLATE_LENGTH) & fields::is_filled(f, plate_characters(f))
+}
+
+pub fn is_nationality(f: &[u8]) -> bool
+    ensures { λ r. ⌜ r ≡ nationality (now (f .entry)) ⌝ }
+{
+    (f.len() == 3)
+        & fields::is_capitals(fields::field(f, 1, 2), 2)
+        & fields::is_blanks(fields::field(f, 3, 3), 1)
+}
+
+// q <= k + 1, for every k.
+fn at_most_next(q: u64, k: usize) -> bool
+    ensures { λ r. ⌜ r ≡ leb q (k + 1) ⌝ }
+{
+    if q == 0 {
+        return true;
+    }
+    q - 1 <= k as u64
+}
+
+// q >= p + 2, for every p.
+fn two_apart(p: u64, q: u64) -> bool
+    ensures { λ r. ⌜ r ≡ leb (p + 2) q ⌝ }
+{
+    if q < 2 {
+        return false;
+    }
+    p <= q - 2
+}
+
+fn is_separated(p: u64, q: u64, k: usize) -> bool
+    ensures { λ r. ⌜ r ≡ separated p q k ⌝ }
+{
+    ((p == 0) & (q == 0))
+        | ((q == 0) & (2 <= p) & (p <= k as u64))
+        | ((2 <= p) & two_apart(p, q) & at_most_next(q, k))
+}
+
+// A plate of k characters may have these separators.
+pub fn is_separator(f: &[u8], k: usize) -> bool
+    ensures { λ r. ⌜ r ≡ separator (now (f .entry)) k ⌝ }
+{
+    let p = fields::number(fields::field(f, 1, 1));
+    let q = fields::number(fields::field(f, 2, 2));
+    fields::is_digits(f, 2) & is_separated(p, q, k)
+}
