@@ -5,4 +5,14 @@ pub mod Text
 pub mod Same
 pub mod Every
 pub mod Parts
+pub mod Walk
 pub mod Table
+pub mod Count
+pub mod Each
+pub mod Keep
+pub mod Pick
+pub mod Distinct
+pub mod Join
+pub mod Put
+pub mod Pad
+pub mod CloseUp

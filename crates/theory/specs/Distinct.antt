@@ -1,0 +1,60 @@
+-- No two of a list are the same; where a list is of records, it is their keys that are asked. Assumes nothing.
+use mathlib.Core.Path.{_≡_, refl, _∙_}
+use mathlib.Core.Bool.{Bool, true, false, not, _&&_}
+use mathlib.Core.List.{List, [], _∷_, _++_, map}
+use Prim.Native.Nat.{ℕ}
+use borrow.Author.Tests.{not-true}
+use Rattle.theory.specs.Truth.{and-left, and-right, and-none, or-left, or-right, or-both}
+use Rattle.theory.specs.Same.{eqs, eqs-sym, mem, mem-append}
+use Rattle.theory.specs.Each.{Each, none, more, each-map}
+use Rattle.theory.specs.Keep.{onto, sift, map-onto, mem-onto}
+
+-- none stands among those behind it
+unfoldable pub distinct : List (List ℕ) → Bool
+distinct [] = true
+distinct (x ∷ xs) = not (mem x xs) && distinct xs
+
+-- the first is not among the rest
+pub distinct-head : (x : List ℕ) (xs : List (List ℕ)) → distinct (x ∷ xs) ≡ true → mem x xs ≡ false
+unfolding distinct
+distinct-head x xs h = not-true (mem x xs) (and-left (not (mem x xs)) (distinct xs) h)
+
+pub distinct-tail : (x : List ℕ) (xs : List (List ℕ)) → distinct (x ∷ xs) ≡ true → distinct xs ≡ true
+unfolding distinct
+distinct-tail x xs h = and-right (not (mem x xs)) (distinct xs) h
+
+pub distinct-onto : (b : Bool) (x : List ℕ) (xs : List (List ℕ)) → (b ≡ true → mem x xs ≡ false) → distinct xs ≡ true → distinct (onto b x xs) ≡ true
+unfolding onto distinct
+distinct-onto true x xs g h = rw (g refl) h
+distinct-onto false x xs g h = h
+
+-- none of ys is x
+not-among : (x : List ℕ) (xs : List (List ℕ)) {ys : List (List ℕ)} → Each (λ y. mem y (x ∷ xs) ≡ false) ys → mem x ys ≡ false
+unfolding mem
+not-among x xs none = refl
+not-among x xs (more h hs) = or-both _ _ (eqs-sym x _ ∙ or-left _ _ h) (not-among x xs hs)
+
+pub distinct-append : (xs ys : List (List ℕ)) → distinct xs ≡ true → distinct ys ≡ true → Each (λ y. mem y xs ≡ false) ys → distinct (xs ++ ys) ≡ true
+unfolding distinct mem
+distinct-append [] ys h k a = k
+distinct-append (x ∷ xs) ys h k a =
+    rw (mem-append x xs ys, distinct-head x xs h, not-among x xs a)
+    (distinct-append xs ys (distinct-tail x xs h) k (each-map (λ y e. or-right (eqs y x) (mem y xs) e) a))
+
+-- ---- records with keys
+
+module _ {A : Type 0} (key : A → List ℕ) (p : A → Bool) where
+  -- a key that none has, none that is kept has
+  pub mem-sift : (t : List ℕ) (xs : List A) → mem t (map key xs) ≡ false → mem t (map key (sift p xs)) ≡ false
+  unfolding mem sift
+  mem-sift t [] h = refl
+  mem-sift t (x ∷ xs) h =
+      rw (map-onto key (p x) x (sift p xs), mem-onto t (p x) (key x) (map key (sift p xs)))
+      (or-both _ _ (and-none (p x) (eqs t (key x)) (or-left (eqs t (key x)) (mem t (map key xs)) h)) (mem-sift t xs (or-right (eqs t (key x)) (mem t (map key xs)) h)))
+
+  pub distinct-sift : (xs : List A) → distinct (map key xs) ≡ true → distinct (map key (sift p xs)) ≡ true
+  unfolding sift
+  distinct-sift [] h = h
+  distinct-sift (x ∷ xs) h =
+      rw (map-onto key (p x) x (sift p xs))
+      (distinct-onto (p x) (key x) (map key (sift p xs)) (λ e. mem-sift (key x) xs (distinct-head (key x) (map key xs) h)) (distinct-sift xs (distinct-tail (key x) (map key xs) h)))
