@@ -3,13 +3,13 @@ use mathlib.Core.Path.{_≡_, refl, sym, ap, _∙_}
 use mathlib.Core.Bool.{Bool, true, false, _||_}
 use mathlib.Core.List.{List, [], _∷_}
 use Prim.Native.Nat.{ℕ, _<_, _≤_, _+_, _-_, _*_, _/_, _^_}
-use native.Mathlib.Nat.{pow-suc, pow-le-pow-right, div-add-mod'}
+use native.Mathlib.Nat.{pow-suc, pow-le-pow-right}
 use native.Mathlib.Numerals.{add-one}
 use native.Mathlib.Omega.{arith}
 use lib.ListN.{length, take, drop, getD, length-drop, drop-of-length-le}
 use lib.Seq.{drop-cons, take-all, take-nil}
 use Rattle.theory.specs.Same.{eqs, mem}
-use Rattle.theory.specs.Parts.{chop, partAt, partsFrom, parts-start, parts-step, parts-end, part-is, part-fits}
+use Rattle.theory.specs.Parts.{chop, partAt, partsFrom, parts-start, parts-step, parts-end}
 use Rattle.fields.specs.Field.{field, number, numberAfter, listed}
 
 module _ (text : List ℕ) (from to : ℕ) where
@@ -64,10 +64,6 @@ number-end f n i w h = sym (w .whole ∙ rw (drop-of-length-le f))
 
 -- ---- a search in a table
 
--- an entry lies within the table
-pub entry-fits : (m w i : ℕ) → i < m / w → i * w + w ≤ m
-entry-fits m w i h = part-fits w (m / w) i m (omega (arith, div-add-mod' m w)) h
-
 -- what is left decides
 unfoldable pub Searching : ℕ → List ℕ → List ℕ → ℕ → Type 0
 Searching w table f i = listed w table f ≡ mem f (partsFrom w (length table / w) i table)
@@ -82,15 +78,11 @@ module _ (w : ℕ) (table f : List ℕ) where
     unfolding Searching mem
     search-end h = sym (v ∙ rw (parts-end w (length table / w) table i h))
 
-    -- the entry is compared as the code lends it
-    module _ (h : i < length table / w) (r : Bool) (e : r ≡ eqs f (take (i * w + w - i * w) (drop (i * w) table))) where
-      at-entry : r ≡ eqs f (partAt w i table)
-      at-entry = e ∙ ap (eqs f) (part-is w i table)
-
+    module _ (h : i < length table / w) (x : List ℕ) (p : x ≡ partAt w i table) (r : Bool) (e : r ≡ eqs f x) where
       pub search-hit : r ≡ true → true ≡ listed w table f
       unfolding Searching mem
-      search-hit t = sym (v ∙ rw (parts-step w (length table / w) table i h, ← at-entry, t))
+      search-hit t = sym (v ∙ rw (parts-step w (length table / w) table i h, ← p, ← e, t))
 
       pub search-on : r ≡ false → Searching w table f (i + 1)
       unfolding Searching mem
-      search-on t = v ∙ rw (parts-step w (length table / w) table i h, ← at-entry, t)
+      search-on t = v ∙ rw (parts-step w (length table / w) table i h, ← p, ← e, t)

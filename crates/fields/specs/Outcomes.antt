@@ -6,10 +6,14 @@ use Prim.Native.Nat.{ℕ}
 use Rattle.theory.specs.Outcome.{one-outcome}
 use Rattle.theory.specs.Same.{eqs}
 use Rattle.theory.specs.Every.{run, leading}
+use Rattle.theory.specs.Parts.{partAt}
 use Rattle.fields.specs.Field.{field, digit, zero, blank, capital, hex, filledTo, number, listed}
 
 pub field-one : (text : List ℕ) (from to : ℕ) (r s : List ℕ) → r ≡ field from to text → s ≡ field from to text → r ≡ s
 field-one text from to r s = one-outcome
+
+pub part-one : (width i : ℕ) (block r s : List ℕ) → r ≡ partAt width i block → s ≡ partAt width i block → r ≡ s
+part-one width i block r s = one-outcome
 
 pub same-one : (a b : List ℕ) (r s : Bool) → r ≡ eqs a b → s ≡ eqs a b → r ≡ s
 same-one a b r s = one-outcome

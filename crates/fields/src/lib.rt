@@ -1,10 +1,11 @@
 // What one field may hold. Every function takes a slice of any length: a field of another length than asked is
 // simply not in form.
 ghost use mathlib.Core.Path.{_≡_};
-ghost use Prim.Native.Nat.{_+_, _-_, _≤_, _<_};
+ghost use Prim.Native.Nat.{_+_, _*_, _-_, _≤_, _<_};
 ghost use lib.ListN.{length};
 ghost use Rattle.theory.specs.Same.{eqs};
 ghost use Rattle.theory.specs.Every.{all, run, leading};
+ghost use Rattle.theory.specs.Parts.{partAt};
 ghost use Rattle.fields.specs.Field.{field, between, digit, zero, blank, capital, hex, filledTo, number, listed};
 
 // Positions `from` to `to` of a text, counted from 1.
@@ -20,6 +21,16 @@ pub fn field<'a>(text: &'a [u8], from: usize, to: usize) -> &'a [u8]
         return &text[start..];
     }
     &text[start..to]
+}
+
+// The part at place i of a block whose parts are `width` bytes long, counted from 0.
+pub fn part<'a>(block: &'a [u8], width: usize, i: usize) -> &'a [u8]
+    requires { ⌜ i * width + width ≤ length (now block) ⌝ }
+    ensures { λ r. ⌜ now r ≡ partAt width i (now (block .entry)) ⌝ }
+{
+    let at = i * width;
+    let end = at + width;
+    &block[at..end]
 }
 
 pub fn same(a: &[u8], b: &[u8]) -> bool
@@ -169,9 +180,7 @@ pub fn listed(f: &[u8], width: usize, table: &[u8]) -> bool
     let n = table.len() / width;
     let mut i: usize = 0;
     while i < n {
-        let at = i * width;
-        let end = at + width;
-        if same(f, &table[at..end]) {
+        if same(f, part(table, width, i)) {
             return true;
         }
         i += 1;

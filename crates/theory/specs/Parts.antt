@@ -2,10 +2,10 @@
 use mathlib.Core.Path.{_≡_, refl, sym, ap, ap₂, _∙_}
 use mathlib.Core.Bool.{Bool, true, false}
 use mathlib.Core.List.{List, [], _∷_, _++_, append-assoc}
-use Prim.Native.Nat.{ℕ, zero, suc, _+_, _-_, _*_, _≤_, _<_}
+use Prim.Native.Nat.{ℕ, zero, suc, _+_, _-_, _*_, _/_, _≤_, _<_}
 use native.Mathlib.Omega.{arith}
 use native.Mathlib.Numerals.{add-one}
-use native.Mathlib.Nat.{zero-mul, zero-add, mul-le-mul-right, add-sub-cancel-left}
+use native.Mathlib.Nat.{zero-mul, zero-add, mul-le-mul-right, add-sub-cancel-left, div-add-mod'}
 use lib.ListN.{length, take, drop, getD, length-append, length-take, length-drop, take-append-drop}
 use lib.Seq.{length-take-le, drop-drop, take-at, drop-at}
 
@@ -40,6 +40,10 @@ module _ (w n : ℕ) (b : List ℕ) where
 -- a part lies within the block
 pub part-fits : (w n i m : ℕ) → n * w ≤ m → i < n → i * w + w ≤ m
 part-fits w n i m h l = omega (arith, mul-le-mul-right w l)
+
+-- so does each of the parts that a block has
+pub whole-fits : (w i m : ℕ) → i < m / w → i * w + w ≤ m
+whole-fits w i m h = part-fits w (m / w) i m (omega (arith, div-add-mod' m w)) h
 
 -- a part as the code lends it
 pub part-is : (w i : ℕ) (b : List ℕ) → take (i * w + w - i * w) (drop (i * w) b) ≡ partAt w i b

@@ -37,20 +37,21 @@ module _ (q : List ℕ → Bool) (w n : ℕ) (b : List ℕ) where
       unfolding EachFrom each
       each-end h = v ∙ rw (parts-end w n b i h)
 
-      module _ (h : i < n) (r : Bool) (e : r ≡ q (partAt w i b)) where
+      -- x is the part, and r what the test said of it
+      module _ (h : i < n) (x : List ℕ) (p : x ≡ partAt w i b) (r : Bool) (e : r ≡ q x) where
         pub each-on : r ≡ true → EachFrom q w n b (i + 1)
         unfolding EachFrom each
-        each-on t = v ∙ rw (parts-step w n b i h, ← e, t)
+        each-on t = v ∙ rw (parts-step w n b i h, ← p, ← e, t)
 
         pub each-off : r ≡ false → each q (chop w n b) ≡ false
         unfolding EachFrom each
-        each-off t = v ∙ rw (parts-step w n b i h, ← e, t)
+        each-off t = v ∙ rw (parts-step w n b i h, ← p, ← e, t)
 
     module _ (found : Bool) (v : SomeFrom q w n b i found) where
       pub some-end : n ≤ i → found ≡ some q (chop w n b)
       unfolding SomeFrom some
       some-end h = sym (v ∙ rw (parts-end w n b i h) (or-false found))
 
-      pub some-turn : i < n → (r : Bool) → r ≡ q (partAt w i b) → SomeFrom q w n b (i + 1) (found || r)
+      pub some-turn : i < n → (x : List ℕ) → x ≡ partAt w i b → (r : Bool) → r ≡ q x → SomeFrom q w n b (i + 1) (found || r)
       unfolding SomeFrom some
-      some-turn h r e = v ∙ rw (parts-step w n b i h, ← e) (sym (or-assoc found r (some q (partsFrom w n (i + 1) b))))
+      some-turn h x p r e = v ∙ rw (parts-step w n b i h, ← p, ← e) (sym (or-assoc found r (some q (partsFrom w n (i + 1) b))))

@@ -4,7 +4,8 @@ use Prim.Native.Nat.{_≤_, _-_}
 use native.Mathlib.Omega.{arith}
 use native.Mathlib.Nat.{div-le-self}
 use lib.ListN.{length}
-use Rattle.fields.proofs.Laws.{Searching, search-start, search-on, search-hit, search-end, entry-fits}
+use Rattle.theory.specs.Parts.{whole-fits}
+use Rattle.fields.proofs.Laws.{Searching, search-start, search-on, search-hit, search-end}
 use Rattle.fields.proofs.listed.Statement.{statement}
 use Rattle.fields.proofs.listed.Tie as tie
 
@@ -17,23 +18,17 @@ abbrev μ-loop : tie.MeasureT-loop
 loop-holds : tie.Need-loop-holds Inv-loop μ-loop
 loop-holds c = (omega arith, search-start _ _ _)
 
-mul-at : tie.Need-mul-at Inv-loop μ-loop
-mul-at c = omega (arith, entry-fits (length (c .before .before .before .before .args .table .now)) (c .before .before .before .before .args .width) (c .before .loop .i) (c .loop-test .taken))
-
-add-end : tie.Need-add-end Inv-loop μ-loop
-add-end c = omega (arith, entry-fits (length (c .before .before .before .before .args .table .now)) (c .before .before .before .before .args .width) (c .before .loop .i) (c .loop-test .taken))
-
-part-same-end : tie.Need-part-same-end Inv-loop μ-loop
-part-same-end c = omega (arith, entry-fits (length (c .before .before .before .before .args .table .now)) (c .before .before .before .before .args .width) (c .before .loop .i) (c .loop-test .taken))
+part-requires : tie.Need-part-requires Inv-loop μ-loop
+part-requires c κs = whole-fits _ _ _ (c .loop-test .taken)
 
 returns : tie.Need-returns Inv-loop μ-loop
-returns c = search-hit _ _ _ _ (c .before .before .before .before .loop .inv .1) (c .before .before .before .loop-test .taken) _ (c .before .same .ensures) (c .if1 .taken)
+returns c = search-hit _ _ _ _ (c .before .before .before .before .loop .inv .1) (c .before .before .before .loop-test .taken) _ (c .before .before .part .ensures) _ (c .before .same .ensures) (c .if1 .taken)
 
 add-i : tie.Need-add-i Inv-loop μ-loop
 add-i c = omega (arith, div-le-self (length (c .before .before .before .before .before .before .before .args .table .now)) (c .before .before .before .before .before .before .before .args .width))
 
 loop-again : tie.Need-loop-again Inv-loop μ-loop
-loop-again c = (omega arith, search-on _ _ _ _ (c .before .before .before .before .loop .inv .1) (c .before .before .before .loop-test .taken) _ (c .before .same .ensures) (c .if1 .left))
+loop-again c = (omega arith, search-on _ _ _ _ (c .before .before .before .before .loop .inv .1) (c .before .before .before .loop-test .taken) _ (c .before .before .part .ensures) _ (c .before .same .ensures) (c .if1 .left))
 
 returns-2 : tie.Need-returns-2 Inv-loop μ-loop
 returns-2 c = search-end _ _ _ _ (c .before .loop .inv .1) (c .loop-test .left)
@@ -46,11 +41,7 @@ listed-spec =
     μ-loop
     (λ c. search needs)
     loop-holds
-    mul-at
-    add-end
-    (λ c. search needs)
-    (λ c. search needs)
-    part-same-end
+    part-requires
     (λ c κs. search needs)
     returns
     add-i

@@ -1,0 +1,28 @@
+-- Assumes nothing.
+use borrow.Author.Needs.{needs}
+use native.Mathlib.Omega.{arith}
+use Rattle.fields.specs.Field.{field}
+use Rattle.fields.specs.Laws.{field-short}
+use Rattle.issuers.specs.Rows.{beginning}
+use Rattle.issuers.proofs.is_beginning.Statement.{statement}
+use Rattle.issuers.proofs.is_beginning.Tie as tie
+
+number-requires : tie.Need-number-requires
+number-requires c κs = field-short 15 16 15 _ _ (c .field .ensures) (omega arith)
+
+returns : tie.Need-returns
+unfolding beginning
+returns c = cc
+
+pub is-beginning-spec : {M : Type 1} → statement M
+is-beginning-spec =
+    tie.close
+    (tie.spec
+    (λ c κs. search needs)
+    number-requires
+    (λ c κs. search needs)
+    (λ c κs. search needs)
+    (λ c κs. search needs)
+    (λ c κs. search needs)
+    (λ c κs. search needs)
+    returns)

@@ -1,0 +1,143 @@
+// The issuer rows: their form (stop 24), whether one has the sender (stop 29), and what a PAN finds among the
+// sender's (L3, L4).
+ghost use mathlib.Core.Path.{_≡_};
+ghost use mathlib.Core.Bool.{_&&_};
+ghost use lib.Dec.{eqb};
+ghost use Prim.Native.Nat.{_+_, _*_, _≤_, _<_};
+ghost use lib.ListN.{length, take};
+ghost use Rattle.theory.specs.Parts.{chop};
+ghost use Rattle.theory.specs.Walk.{each};
+ghost use Rattle.issuers.specs.Rows.{row, rows, sentBy, beginning, fitting, known, issuedOf, panLength};
+
+// What a PAN finds among the sender's rows: one whose BIN ID digits begin it (L3), and such a one that has its number
+// of digits (L4).
+pub struct Issued {
+    pub begins: bool,
+    pub fits: bool,
+}
+
+const ROW: usize = 24;
+
+const ROWS: usize = 64;
+
+const BIN_FROM: usize = 1;
+
+const BIN_TO: usize = 14;
+
+const BIN_LENGTH_FROM: usize = 15;
+
+const BIN_LENGTH_TO: usize = 16;
+
+const PAN_LENGTH_FROM: usize = 17;
+
+const PAN_LENGTH_TO: usize = 18;
+
+const ACTOR_FROM: usize = 19;
+
+const ACTOR_TO: usize = 24;
+
+fn is_row(r: &[u8]) -> bool
+    ensures { λ t. ⌜ t ≡ row (now (r .entry)) ⌝ }
+{
+    let bin = fields::field(r, BIN_FROM, BIN_TO);
+    let given = fields::digits_in(bin);
+    let bin_length = fields::field(r, BIN_LENGTH_FROM, BIN_LENGTH_TO);
+    let used = fields::number(bin_length);
+    let pan_length = fields::field(r, PAN_LENGTH_FROM, PAN_LENGTH_TO);
+    let digits = fields::number(pan_length);
+    (6 <= given)
+        & fields::is_filled(bin, given)
+        & fields::is_digits(bin_length, 2)
+        & (6 <= used)
+        & (used <= 14)
+        & (used <= given as u64)
+        & fields::is_digits(pan_length, 2)
+        & (used < digits)
+        & (digits <= 19)
+        & fields::is_digits(fields::field(r, ACTOR_FROM, ACTOR_TO), 6)
+}
+
+fn each_row(b: &[u8], n: usize) -> bool
+    requires { ⌜ n * 24 ≤ length (now b) ⌝ }
+    ensures { λ r. ⌜ r ≡ each row (chop 24 n (now (b .entry))) ⌝ }
+{
+    let mut i: usize = 0;
+    while i < n {
+        if !is_row(fields::part(b, ROW, i)) {
+            return false;
+        }
+        i += 1;
+    }
+    true
+}
+
+pub fn are_rows(b: &[u8]) -> bool
+    ensures { λ r. ⌜ r ≡ rows (now (b .entry)) ⌝ }
+{
+    let n = b.len() / ROW;
+    (b.len() % ROW == 0) & (n <= ROWS) & each_row(b, n)
+}
+
+fn is_sent_by(sender: &[u8], r: &[u8]) -> bool
+    ensures { λ t. ⌜ t ≡ sentBy (now (sender .entry)) (now (r .entry)) ⌝ }
+{
+    fields::same(fields::field(r, ACTOR_FROM, ACTOR_TO), sender)
+}
+
+// Does a row have the sender.
+pub fn is_known(b: &[u8], sender: &[u8]) -> bool
+    ensures { λ r. ⌜ r ≡ known (now (b .entry)) (now (sender .entry)) ⌝ }
+{
+    let n = b.len() / ROW;
+    let mut found = false;
+    let mut i: usize = 0;
+    while i < n {
+        found = found | is_sent_by(sender, fields::part(b, ROW, i));
+        i += 1;
+    }
+    found
+}
+
+// The first n bytes, or all where there are fewer.
+fn head<'a>(s: &'a [u8], n: u64) -> &'a [u8]
+    ensures { λ r. ⌜ now r ≡ take n (now (s .entry)) ⌝ }
+{
+    if (s.len() as u64) < n {
+        return &s[0..];
+    }
+    let end = n as usize;
+    &s[..end]
+}
+
+fn is_beginning(sender: &[u8], pan: &[u8], r: &[u8]) -> bool
+    ensures { λ t. ⌜ t ≡ beginning (now (sender .entry)) (now (pan .entry)) (now (r .entry)) ⌝ }
+{
+    let used = fields::number(fields::field(r, BIN_LENGTH_FROM, BIN_LENGTH_TO));
+    let bin = fields::field(r, BIN_FROM, BIN_TO);
+    is_sent_by(sender, r) & fields::same(head(bin, used), head(pan, used))
+}
+
+// The row begins the PAN, of `digits` digits, and has this number of digits.
+fn is_fitting(r: &[u8], begins: bool, digits: usize) -> bool
+    ensures { λ t. ⌜ t ≡ begins && eqb (panLength (now (r .entry))) digits ⌝ }
+{
+    begins & (fields::number(fields::field(r, PAN_LENGTH_FROM, PAN_LENGTH_TO)) == digits as u64)
+}
+
+pub fn issued_to(b: &[u8], sender: &[u8], pan: &[u8]) -> Issued
+    ensures { λ r. ⌜ r ≡ issuedOf (now (b .entry)) (now (sender .entry)) (now (pan .entry)) ⌝ }
+{
+    let n = b.len() / ROW;
+    let digits = fields::digits_in(pan);
+    let mut begins = false;
+    let mut fits = false;
+    let mut i: usize = 0;
+    while i < n {
+        let r = fields::part(b, ROW, i);
+        let t = is_beginning(sender, pan, r);
+        begins = begins | t;
+        fits = fits | is_fitting(r, t, digits);
+        i += 1;
+    }
+    Issued { begins, fits }
+}
