@@ -1,0 +1,4 @@
+pub mod Layout
+pub mod Header
+pub mod Body
+pub mod Outcomes

@@ -1,0 +1,6 @@
+-- Two outcomes of one call are one, for each public function of this crate. Assumes nothing.
+use mathlib.Core.Path.{_≡_}
+use mathlib.Core.Bool.{Bool}
+use mathlib.Core.List.{List}
+use Prim.Native.Nat.{ℕ}
+use Rattle.theory.specs.Outcome.{one-outcome}

@@ -1,0 +1,17 @@
+-- Assumes nothing.
+use borrow.Author.Needs.{needs}
+use mathlib.Core.Path.{sym}
+use Rattle.times.specs.Date.{date-is}
+use Rattle.times.proofs.is_real_date.Statement.{statement}
+use Rattle.times.proofs.is_real_date.Tie as tie
+
+returns : tie.Need-returns
+returns c = rw (c .has-day .ensures, c .before .is-digits .ensures) (sym (date-is _))
+
+pub is-real-date-spec : {M : Type 1} → statement M
+is-real-date-spec =
+    tie.close
+    (tie.spec
+    (λ c κs. search needs)
+    (λ c κs. search needs)
+    returns)

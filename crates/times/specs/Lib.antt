@@ -1,0 +1,6 @@
+pub mod Time
+pub mod Moment
+pub mod Date
+pub mod Calendar
+pub mod Order
+pub mod Outcomes
