@@ -103,18 +103,18 @@ L10 l = emissionHolds l && fieldsHold l && weightHolds l
 unfoldable pub lineFault : List ℕ → List ℕ → List ℕ → ℕ
 lineFault rows sender l =
     first (
-      (3 if not (L1 l))
-      ∷ (4 if not (L2 sender l))
-      ∷ (4 if not (L3 rows sender l))
-      ∷ (3 if not (L4 rows sender l))
-      ∷ (2 if not (L5 l))
-      ∷ (9 if not (L6 l))
-      ∷ (6 if stateless l)
-      ∷ (9 if not (L7 l))
-      ∷ (8 if not (L8 l))
-      ∷ (5 if not (L9 l))
-      ∷ (12 if not (L10 l))
-      ∷ []
+    (3 if not (L1 l))
+    ∷ (4 if not (L2 sender l))
+    ∷ (4 if not (L3 rows sender l))
+    ∷ (3 if not (L4 rows sender l))
+    ∷ (2 if not (L5 l))
+    ∷ (9 if not (L6 l))
+    ∷ (6 if stateless l)
+    ∷ (9 if not (L7 l))
+    ∷ (8 if not (L8 l))
+    ∷ (5 if not (L9 l))
+    ∷ (12 if not (L10 l))
+    ∷ []
     )
 
 -- six-digit actor, and L1, L5 to L10 hold

@@ -1,7 +1,7 @@
 -- Rules with numbers, in an order: the number of the first whose test holds, and 0 where none does.
 -- The stops and the rules of a line are lists of this kind. Assumes nothing.
-use mathlib.Core.Path.{_≡_, refl}
-use mathlib.Core.Bool.{Bool, true, false, cond, true≢false}
+use mathlib.Core.Path.{_≡_, refl, _∙_}
+use mathlib.Core.Bool.{Bool, true, false}
 use mathlib.Core.List.{List, [], _∷_, _++_}
 use Prim.Native.Nat.{ℕ}
 
@@ -13,16 +13,25 @@ infix 18 _if_
 abbrev pub _if_ : ℕ → Bool → Rule
 n if b = record { number = n; fits = b }
 
+-- n where the test holds, else m
+unfoldable pub choose : Bool → ℕ → ℕ → ℕ
+choose true n m = n
+choose false n m = m
+
 unfoldable pub first : List Rule → ℕ
 first [] = 0
-first (r ∷ rs) = cond (r .fits) (r .number) (first rs)
+first (r ∷ rs) = choose (r .fits) (r .number) (first rs)
+
+-- v is what was chosen by the test t, which is the rule's own, before the answer w of the later rules
+pub chosen : (t h : Bool) (n v w w′ : ℕ) → v ≡ choose t n w → t ≡ h → w ≡ w′ → v ≡ choose h n w′
+chosen t h n v w w′ e f g = e ∙ rw (f, g)
 
 pub first-hit : (r : Rule) (rs : List Rule) → r .fits ≡ true → first (r ∷ rs) ≡ r .number
-unfolding first
+unfolding first choose
 first-hit r rs h = rw h
 
 pub first-miss : (r : Rule) (rs : List Rule) → r .fits ≡ false → first (r ∷ rs) ≡ first rs
-unfolding first
+unfolding first choose
 first-miss r rs h = rw h
 
 -- none of them fits
@@ -32,11 +41,11 @@ pub data None : List Rule → Type 0 where
 
 -- behind rules that do not fit, the next decides
 pub first-behind : {rs : List Rule} → None rs → (r : Rule) (qs : List Rule) → r .fits ≡ true → first (rs ++ r ∷ qs) ≡ r .number
-unfolding first
+unfolding first choose
 first-behind none r qs h = first-hit r qs h
 first-behind (more e n) r qs h = rw e (first-behind n r qs h)
 
 pub first-none : {rs : List Rule} → None rs → first rs ≡ 0
-unfolding first
+unfolding first choose
 first-none none = refl
 first-none (more e n) = rw e (first-none n)

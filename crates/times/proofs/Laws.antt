@@ -2,20 +2,15 @@
 use mathlib.Core.Path.{_≡_, refl, _∙_}
 use mathlib.Core.Bool.{Bool, true, false, _&&_, _||_}
 use mathlib.Core.List.{List}
-use Prim.Native.Nat.{ℕ, _+_, _-_, _<_, _≤_}
+use Prim.Native.Nat.{ℕ, _+_, _<_, _≤_}
 use native.Mathlib.Numerals.{add-one}
 use native.Mathlib.Omega.{arith}
 use lib.Dec.{eqb, ltb}
-use lib.ListN.{length, drop, getD, length-take, drop-of-length-le}
+use lib.ListN.{length, drop, getD, drop-of-length-le}
 use lib.Seq.{drop-cons}
 use borrow.Author.Tests.{eq-eqb, ne-eqb, le-ltb}
 use Rattle.theory.specs.Truth.{or-false}
-use Rattle.fields.specs.Field.{field}
 use Rattle.times.specs.Order.{earlier}
-
-pub length-field : (from to : ℕ) (t : List ℕ) → length (field from to t) ≤ to + 1 - from
-unfolding field
-length-field from to t = simp length-take (omega arith)
 
 -- ---- the order from the place i on, as a comparing loop has it
 

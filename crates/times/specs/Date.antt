@@ -70,12 +70,16 @@ module _ (d : List ℕ) where
         rw (date-day midnight l, date-clock l) (and-true (realDay (year d) (month d) (day d)))
     go false e = refl
 
--- the first eight digits of a real time
-pub date-of : (d c : List ℕ) → length d ≡ 8 → realTime (d ++ c) ≡ true → realDate d ≡ true
-unfolding run
-date-of d c l h =
-    let all-d : all digit d ≡ true = and-left (all digit d) (all digit c) (rw (all-append digit d c) at (real-all (d ++ c) h)) in
-    let day-d : realDay (year d) (month d) (day d) ≡ true =
-    sym (date-day d c l)
-    ∙ and-left (realDay (year (d ++ c)) (month (d ++ c)) (day (d ++ c))) (realClock (hour (d ++ c)) (minute (d ++ c)) (second (d ++ c))) (real-numbers (d ++ c) h) in
-    rw (date-is d, eq-eqb (length d) 8 l, all-d) day-d
+module _ (d c : List ℕ) (l : length d ≡ 8) (h : realTime (d ++ c) ≡ true) where
+  front-digits : all digit d ≡ true
+  front-digits = and-left (all digit d) (all digit c) (rw (all-append digit d c) at (real-all (d ++ c) h))
+
+  front-day : realDay (year d) (month d) (day d) ≡ true
+  front-day =
+      sym (date-day d c l)
+      ∙ and-left (realDay (year (d ++ c)) (month (d ++ c)) (day (d ++ c))) (realClock (hour (d ++ c)) (minute (d ++ c)) (second (d ++ c))) (real-numbers (d ++ c) h)
+
+  -- the first eight digits of a real time
+  pub date-of : realDate d ≡ true
+  unfolding run
+  date-of = rw (date-is d, eq-eqb (length d) 8 l, front-digits) front-day

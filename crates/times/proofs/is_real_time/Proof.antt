@@ -6,7 +6,7 @@ use Rattle.times.proofs.is_real_time.Tie as tie
 
 returns : tie.Need-returns
 unfolding realTime
-returns c = cc
+returns c = rw (c .has-clock .ensures, c .before .has-day .ensures, c .before .before .is-digits .ensures)
 
 pub is-real-time-spec : {M : Type 1} → statement M
 is-real-time-spec =

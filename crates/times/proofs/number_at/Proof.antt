@@ -2,12 +2,12 @@
 use borrow.Author.Needs.{needs}
 use native.Mathlib.Omega.{arith}
 use Rattle.fields.specs.Field.{field, number}
-use Rattle.times.proofs.Laws.{length-field}
+use Rattle.fields.specs.Laws.{field-most}
 use Rattle.times.proofs.number_at.Statement.{statement}
 use Rattle.times.proofs.number_at.Tie as tie
 
 number-requires : tie.Need-number-requires
-number-requires c κs = rw (c .field .ensures) (omega (arith, length-field (c .before .before .args .from) (c .before .before .args .to) (c .before .before .args .t .now)))
+number-requires c κs = rw (c .field .ensures) (omega (arith, field-most (c .before .before .args .from) (c .before .before .args .to) (c .before .before .args .t .now)))
 
 returns : tie.Need-returns
 returns c = rw (c .number .ensures, c .before .field .ensures)

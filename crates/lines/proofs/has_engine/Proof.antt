@@ -1,0 +1,23 @@
+-- Assumes nothing.
+use borrow.Author.Needs.{needs}
+use native.Mathlib.Omega.{arith}
+use Rattle.fields.specs.Laws.{field-short}
+use Rattle.lines.specs.Rules.{engineHolds}
+use Rattle.lines.proofs.has_engine.Statement.{statement}
+use Rattle.lines.proofs.has_engine.Tie as tie
+
+number-requires : tie.Need-number-requires
+number-requires c κs = field-short 92 94 15 _ _ (c .field .ensures) (omega arith)
+
+returns : tie.Need-returns
+unfolding engineHolds
+returns c = cc
+
+pub has-engine-spec : {M : Type 1} → statement M
+has-engine-spec =
+    tie.close
+    (tie.spec
+    (λ c κs. search needs)
+    number-requires
+    (λ c κs. search needs)
+    returns)

@@ -1,0 +1,25 @@
+-- Assumes nothing.
+use borrow.Author.Needs.{needs}
+use native.Mathlib.Omega.{arith}
+use Rattle.fields.specs.Laws.{field-short}
+use Rattle.lines.specs.Rules.{weightHolds}
+use Rattle.lines.proofs.has_light_weight.Statement.{statement}
+use Rattle.lines.proofs.has_light_weight.Tie as tie
+
+number-requires : tie.Need-number-requires
+number-requires c κs = field-short 97 100 15 _ _ (c .field2 .ensures) (omega arith)
+
+returns : tie.Need-returns
+unfolding weightHolds
+returns c = cc
+
+pub has-light-weight-spec : {M : Type 1} → statement M
+has-light-weight-spec =
+    tie.close
+    (tie.spec
+    (λ c κs. search needs)
+    (λ c κs. search needs)
+    number-requires
+    (λ c. search needs)
+    (λ c κs. search needs)
+    returns)

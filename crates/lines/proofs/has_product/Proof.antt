@@ -1,0 +1,23 @@
+-- Assumes nothing.
+use borrow.Author.Needs.{needs}
+use Rattle.lines.specs.Rules.{productHolds}
+use Rattle.lines.proofs.has_product.Statement.{statement}
+use Rattle.lines.proofs.has_product.Tie as tie
+
+returns : tie.Need-returns
+unfolding productHolds
+returns c = cc
+
+pub has-product-spec : {M : Type 1} → statement M
+has-product-spec =
+    tie.close
+    (tie.spec
+    (λ c κs. search needs)
+    (λ c. search needs)
+    (λ c κs. search needs)
+    (λ c κs. search needs)
+    (λ c. search needs)
+    (λ c κs. search needs)
+    (λ c κs. search needs)
+    (λ c κs. search needs)
+    returns)
