@@ -35,6 +35,10 @@ capital = between 65 90
 abbrev pub hex : ℕ → Bool
 hex b = between 48 57 b || between 65 70 b
 
+-- not below 32: no control character
+abbrev pub plain : ℕ → Bool
+plain b = leb 32 b
+
 -- at least one character, k in all, then blanks
 unfoldable pub filledTo : ℕ → List ℕ → Bool
 filledTo k f = leb k (length f) && ltb 0 k && all blank (drop k f)

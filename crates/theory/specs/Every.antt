@@ -8,6 +8,7 @@ use native.Mathlib.Omega.{arith}
 use lib.Dec.{eqb}
 use lib.ListN.{length, take, drop, getD, drop-of-length-le}
 use lib.Seq.{drop-cons}
+use borrow.Author.Tests.{eqb-true, eq-eqb}
 use Rattle.theory.specs.Truth.{and-left, and-right, and-assoc}
 
 unfoldable pub all : (ℕ → Bool) → List ℕ → Bool
@@ -56,6 +57,37 @@ module _ (p : ℕ → Bool) where
   all-at [] i h l = absurd (omega arith)
   all-at (x ∷ s) zero h l = and-left (p x) (all p s) h
   all-at (x ∷ s) (suc i) h l = all-at s i (and-right (p x) (all p s) h) (omega arith)
+
+  -- both halves of a run, and back
+  pub run-length : (n : ℕ) (s : List ℕ) → run p n s ≡ true → length s ≡ n
+  unfolding run
+  run-length n s h = eqb-true (length s) n (and-left (eqb (length s) n) (all p s) h)
+
+  pub run-all : (n : ℕ) (s : List ℕ) → run p n s ≡ true → all p s ≡ true
+  unfolding run
+  run-all n s h = and-right (eqb (length s) n) (all p s) h
+
+  pub all-run : (n : ℕ) (s : List ℕ) → length s ≡ n → all p s ≡ true → run p n s ≡ true
+  unfolding run
+  all-run n s l h = rw (eq-eqb (length s) n l) h
+
+  pub all-take : (k : ℕ) (s : List ℕ) → all p s ≡ true → all p (take k s) ≡ true
+  unfolding all
+  all-take zero s h = refl
+  all-take (suc k) [] h = refl
+  all-take (suc k) (x ∷ s) h = rw (and-left (p x) (all p s) h) (all-take k s (and-right (p x) (all p s) h))
+
+  pub all-drop : (k : ℕ) (s : List ℕ) → all p s ≡ true → all p (drop k s) ≡ true
+  unfolding all
+  all-drop zero s h = h
+  all-drop (suc k) [] h = refl
+  all-drop (suc k) (x ∷ s) h = all-drop k s (and-right (p x) (all p s) h)
+
+  -- what passes a narrower test passes a wider one
+  pub all-wider : (q : ℕ → Bool) → ((b : ℕ) → p b ≡ true → q b ≡ true) → (s : List ℕ) → all p s ≡ true → all q s ≡ true
+  unfolding all
+  all-wider q g [] h = refl
+  all-wider q g (x ∷ s) h = rw (g x (and-left (p x) (all p s) h)) (all-wider q g s (and-right (p x) (all p s) h))
 
   -- ---- in front
 

@@ -1,0 +1,16 @@
+-- The end of a record: what its Valid to becomes at a reception, and until when it is active. Assumes nothing.
+use mathlib.Core.Bool.{Bool, cond, _||_}
+use mathlib.Core.List.{List}
+use Prim.Native.Nat.{ℕ}
+use Rattle.theory.specs.Every.{run}
+use Rattle.fields.specs.Field.{zero}
+use Rattle.times.specs.Order.{earlier}
+use Rattle.lines.specs.Columns.{validTo}
+
+-- zeros stay zeros; a time not later than reception becomes reception; a later one stays
+unfoldable pub endOf : List ℕ → List ℕ → List ℕ
+endOf reception v = cond (run zero 14 v) v (cond (earlier reception v) v reception)
+
+-- a record is active at t when its end is zeros or later than t
+unfoldable pub active : List ℕ → List ℕ → Bool
+active t l = run zero 14 (validTo l) || earlier t (validTo l)
