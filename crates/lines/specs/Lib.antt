@@ -1,5 +1,6 @@
 pub mod Columns
 pub mod Rules
+pub mod Faultless
 pub mod Coverage
 pub mod End
 pub mod Starred

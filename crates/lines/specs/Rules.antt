@@ -5,7 +5,7 @@ use mathlib.Core.Bool.{Bool, not, _&&_, _||_}
 use mathlib.Core.List.{List, [], _∷_}
 use lib.Dec.{eqb, leb, ltb}
 use Rattle.theory.specs.Text.{bytes}
-use Rattle.theory.specs.First.{_if_, first}
+use Rattle.theory.specs.First.{Rule, _if_, first}
 use Rattle.theory.specs.Same.{eqs}
 use Rattle.theory.specs.Every.{run}
 use Rattle.fields.specs.Field.{digit, zero, blank, hex, number, listed}
@@ -99,10 +99,9 @@ L10 l = emissionHolds l && fieldsHold l && weightHolds l
 
 -- ---- a line, and a record
 
--- L1 to L10: the reason of the first that fits, 0 where none does
-unfoldable pub lineFault : List ℕ → List ℕ → List ℕ → ℕ
-lineFault rows sender l =
-    first (
+-- L1 to L10 in their order, each with its reason
+unfoldable pub lineRules : List ℕ → List ℕ → List ℕ → List Rule
+lineRules rows sender l =
     (3 if not (L1 l))
     ∷ (4 if not (L2 sender l))
     ∷ (4 if not (L3 rows sender l))
@@ -115,7 +114,10 @@ lineFault rows sender l =
     ∷ (5 if not (L9 l))
     ∷ (12 if not (L10 l))
     ∷ []
-    )
+
+-- the reason of the first that fits, 0 where none does
+unfoldable pub lineFault : List ℕ → List ℕ → List ℕ → ℕ
+lineFault rows sender l = first (lineRules rows sender l)
 
 -- six-digit actor, and L1, L5 to L10 hold
 unfoldable pub recordHolds : List ℕ → Bool

@@ -1,9 +1,13 @@
 -- Rules with numbers, in an order: the number of the first whose test holds, and 0 where none does.
 -- The stops and the rules of a line are lists of this kind. Assumes nothing.
 use mathlib.Core.Path.{_≡_, refl, _∙_}
-use mathlib.Core.Bool.{Bool, true, false}
+use mathlib.Core.Bool.{Bool, true, false, _&&_}
 use mathlib.Core.List.{List, [], _∷_, _++_}
-use Prim.Native.Nat.{ℕ}
+use Prim.Native.Nat.{ℕ, _<_}
+use native.Mathlib.Omega.{arith}
+use lib.Dec.{ltb}
+use borrow.Author.Tests.{ltb-true}
+use Rattle.theory.specs.Truth.{and-left, and-right}
 
 pub record Rule : Type 0 where
   pub number : ℕ
@@ -49,3 +53,25 @@ pub first-none : {rs : List Rule} → None rs → first rs ≡ 0
 unfolding first choose
 first-none none = refl
 first-none (more e n) = rw e (first-none n)
+
+-- every rule has a number of its own, so 0 says that none fits
+unfoldable pub numbered : List Rule → Bool
+numbered [] = true
+numbered (r ∷ rs) = ltb 0 (r .number) && numbered rs
+
+pub first-clear : (rs : List Rule) → numbered rs ≡ true → first rs ≡ 0 → None rs
+unfolding numbered first choose
+first-clear [] n h = none
+first-clear (r ∷ rs) n h =
+    go (r .fits) refl h (λ k. first-clear rs (and-right (ltb 0 (r .number)) (numbered rs) n) k) (ltb-true 0 (r .number) (and-left (ltb 0 (r .number)) (numbered rs) n))
+  where
+    go : (b : Bool) → r .fits ≡ b → choose b (r .number) (first rs) ≡ 0 → (first rs ≡ 0 → None rs) → 0 < r .number → None (r ∷ rs)
+    go true e k ih p = absurd (omega arith)
+    go false e k ih p = more e (ih k)
+
+-- one rule less, of those that do not fit
+pub none-head : (r : Rule) (rs : List Rule) → None (r ∷ rs) → r .fits ≡ false
+none-head r rs (more e n) = e
+
+pub none-tail : (r : Rule) (rs : List Rule) → None (r ∷ rs) → None rs
+none-tail r rs (more e n) = n
