@@ -1,0 +1,65 @@
+// Runs the vectors of the document and of docs/DECISIONS.md. `stdin` has one a line: what is asked in eight characters,
+// a blank, and what it is asked of; `stdout` has the same lines, each with its answer. A line that begins with # is a note.
+use libc::STDIN_FILENO;
+use libc::STDOUT_FILENO;
+ghost use Prim.Native.Nat.{_≤_};
+ghost use lib.ListN.{length};
+
+mod ask;
+mod vary;
+
+const NO: u64 = 100;
+
+const YES: u64 = 101;
+
+fn tell(answer: u64) {
+    io::write_all(STDOUT_FILENO, b" -> ");
+    if answer == NO {
+        io::write_all(STDOUT_FILENO, b"no");
+        return;
+    }
+    if answer == YES {
+        io::write_all(STDOUT_FILENO, b"yes");
+        return;
+    }
+    io::print_decimal(STDOUT_FILENO, answer);
+}
+
+fn case(line: &[u8]) {
+    io::write_all(STDOUT_FILENO, line);
+    let tag = fields::field(line, 1, 8);
+    if !fields::same(fields::field(line, 1, 1), b"#") {
+        tell(ask::answer(tag, fields::field(line, 10, 65536)));
+    }
+    io::write_all(STDOUT_FILENO, b"\n");
+}
+
+// Where the line that starts at `from` ends.
+fn line_end(text: &[u8], from: usize) -> usize
+    requires { ⌜ from ≤ length (now text) ⌝ }
+    ensures { λ r. ⌜ (from ≤ r) × (r ≤ length (now (text .entry))) ⌝ }
+{
+    let mut i = from;
+    while i < text.len() {
+        if text[i] == 10 {
+            return i;
+        }
+        i += 1;
+    }
+    i
+}
+
+fn each_case(text: &[u8]) {
+    let mut i: usize = 0;
+    while i < text.len() {
+        let end = line_end(text, i);
+        case(&text[i..end]);
+        i = end + 1;
+    }
+}
+
+fn main() {
+    let mut text = io::large_buffer();
+    let n = io::read_full(STDIN_FILENO, &mut text);
+    each_case(&text[..n]);
+}

@@ -1,0 +1,51 @@
+// A right line with one column changed: three digits say from which position on, and the text stands behind a blank.
+use crate::ask::told;
+
+// Byte i of a text that is put from position `from` on; one that would lie outside is left out.
+fn store(to: &mut [u8], from: usize, i: usize, b: u8) {
+    if i < to.len() {
+        if 0 < from {
+            if from <= to.len() - i {
+                to[from - 1 + i] = b;
+            }
+        }
+    }
+}
+
+fn put(to: &mut [u8], from: usize, text: &[u8]) {
+    let mut i: usize = 0;
+    while i < text.len() {
+        store(to, from, i, text[i]);
+        i += 1;
+    }
+}
+
+// The right line, and over it what `f` says.
+fn vary(line: &mut [u8], f: &[u8]) {
+    put(
+        line,
+        1,
+        b"1900123      9799001200000002   ABC123    NO 12  30C00B00050330C00B001222070321Euro6 02N   004000000000000000000003000000000000\n",
+    );
+    put(
+        line,
+        fields::number(fields::field(f, 1, 3)) as usize,
+        fields::field(f, 5, 65536),
+    );
+}
+
+pub fn of_line(tag: &[u8], f: &[u8]) -> u64 {
+    let mut line = [0u8; 128];
+    if fields::same(tag, b"under   ") {
+        vary(&mut line, b"");
+        return lines::line_fault(&line, b"900123", f);
+    }
+    vary(&mut line, f);
+    if fields::same(tag, b"line    ") {
+        return lines::line_fault(&line, b"900123", b"97990012      0816900123");
+    }
+    if fields::same(tag, b"record  ") {
+        return told(lines::is_record(&line));
+    }
+    255
+}
