@@ -12,7 +12,16 @@ number-requires c κs = field-short 15 16 15 _ _ (c .field .ensures) (omega arit
 
 returns : tie.Need-returns
 unfolding beginning
-returns c = cc
+returns c =
+    rw (
+      c .same .ensures,
+      c .before .head2 .ensures,
+      c .before .before .head .ensures,
+      c .before .before .before .is-sent-by .ensures,
+      c .before .before .before .before .field2 .ensures,
+      c .before .before .before .before .before .number .ensures,
+      c .before .before .before .before .before .before .field .ensures,
+    )
 
 pub is-beginning-spec : {M : Type 1} → statement M
 is-beginning-spec =

@@ -15,7 +15,20 @@ number-requires-2 c κs = field-short 17 18 15 _ _ (c .field3 .ensures) (omega a
 
 returns : tie.Need-returns
 unfolding row filled
-returns c = cc
+returns c =
+    rw (
+      c .is-digits3 .ensures,
+      c .before .field4 .ensures,
+      c .before .before .is-digits2 .ensures,
+      c .before .before .before .is-digits .ensures,
+      c .before .before .before .before .is-filled .ensures,
+      c .before .before .before .before .before .number2 .ensures,
+      c .before .before .before .before .before .before .field3 .ensures,
+      c .before .before .before .before .before .before .before .number .ensures,
+      c .before .before .before .before .before .before .before .before .field2 .ensures,
+      c .before .before .before .before .before .before .before .before .before .digits-in .ensures,
+      c .before .before .before .before .before .before .before .before .before .before .field .ensures,
+    )
 
 pub is-row-spec : {M : Type 1} → statement M
 is-row-spec =

@@ -11,7 +11,7 @@ number-requires c κs = field-short 92 94 15 _ _ (c .field .ensures) (omega arit
 
 returns : tie.Need-returns
 unfolding engineHolds
-returns c = cc
+returns c = rw (c .is-digits .ensures, c .before .number .ensures, c .before .before .field .ensures)
 
 pub has-engine-spec : {M : Type 1} → statement M
 has-engine-spec =

@@ -11,7 +11,13 @@ number-requires c κs = field-short 97 100 15 _ _ (c .field2 .ensures) (omega ar
 
 returns : tie.Need-returns
 unfolding weightHolds
-returns c = cc
+returns c =
+    rw (
+      c .listed .ensures,
+      c .before .before .number .ensures,
+      c .before .before .before .field2 .ensures,
+      c .before .before .before .before .field .ensures,
+    )
 
 pub has-light-weight-spec : {M : Type 1} → statement M
 has-light-weight-spec =

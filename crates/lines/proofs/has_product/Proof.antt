@@ -6,7 +6,15 @@ use Rattle.lines.proofs.has_product.Tie as tie
 
 returns : tie.Need-returns
 unfolding productHolds
-returns c = cc
+returns c =
+    rw (
+      c .is-blanks .ensures,
+      c .before .field3 .ensures,
+      c .before .before .listed2 .ensures,
+      c .before .before .before .before .field2 .ensures,
+      c .before .before .before .before .before .listed .ensures,
+      c .before .before .before .before .before .before .before .field .ensures,
+    )
 
 pub has-product-spec : {M : Type 1} → statement M
 has-product-spec =

@@ -6,7 +6,13 @@ use Rattle.lines.proofs.has_separator.Tie as tie
 
 returns : tie.Need-returns
 unfolding separatorHolds
-returns c = cc
+returns c =
+    rw (
+      c .is-separator .ensures,
+      c .before .plate-characters .ensures,
+      c .before .before .field2 .ensures,
+      c .before .before .before .field .ensures,
+    )
 
 pub has-separator-spec : {M : Type 1} → statement M
 has-separator-spec =

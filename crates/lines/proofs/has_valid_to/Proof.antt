@@ -6,7 +6,7 @@ use Rattle.lines.proofs.has_valid_to.Tie as tie
 
 returns : tie.Need-returns
 unfolding validToHolds
-returns c = cc
+returns c = rw (c .is-real-time .ensures, c .before .is-zeros .ensures, c .before .before .field .ensures)
 
 pub has-valid-to-spec : {M : Type 1} → statement M
 has-valid-to-spec =

@@ -6,7 +6,7 @@ use Rattle.lines.proofs.holds_l9.Tie as tie
 
 returns : tie.Need-returns
 unfolding L9
-returns c = cc
+returns c = rw (c .is-hex .ensures, c .before .field .ensures)
 
 pub holds-l9-spec : {M : Type 1} → statement M
 holds-l9-spec =
