@@ -1,4 +1,5 @@
 pub mod Layout
 pub mod Header
 pub mod Body
+pub mod Laws
 pub mod Outcomes

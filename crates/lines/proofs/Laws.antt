@@ -5,7 +5,7 @@ use Prim.Native.Nat.{ℕ}
 use Rattle.fields.specs.Field.{field}
 use Rattle.issuers.specs.Rows.{begun, fitted, issuedOf}
 use Rattle.issuers.specs.declared.Issued.{Issued}
-use Rattle.lines.specs.Columns.{panOf}
+use Rattle.columns.specs.Columns.{panOf}
 use Rattle.lines.specs.Rules.{L3, L4}
 
 module _ (rows sender l pan : List ℕ) (r : Issued) (e : r ≡ issuedOf rows sender pan) (f : pan ≡ panOf l) where

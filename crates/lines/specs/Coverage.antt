@@ -18,8 +18,9 @@ use Rattle.times.specs.Time.{realTime}
 use Rattle.times.specs.Moment.{real-length, real-all}
 use Rattle.pans.specs.Pan.{pan}
 use Rattle.plates.specs.Plate.{allowed, plate, nationality, separator, separated, plateCharacters}
-use Rattle.lines.specs.Columns.{text, actor, shadow, panOf, plateOf, nationalityOf, tariff, class, axles, contextMark, obeId, emission, fuel, chargeable, productRest, engine, co2, weight, validTo, separatorOf, filler}
-use Rattle.lines.specs.Rules.{L1, L5, L6, L7, L8, L9, L10, tariffHolds, classHolds, emissionHolds, productHolds, engineHolds, validToHolds, separatorHolds, fieldsHold, weightHolds, recordHolds}
+use Rattle.columns.specs.Columns.{text, actor, shadow, panOf, plateOf, nationalityOf, tariff, class, axles, contextMark, obeId, emission, fuel, chargeable, productRest, engine, co2, weight, validTo, separatorOf, filler}
+use Rattle.vehicles.specs.Vehicle.{L10, tariffHolds, classHolds, emissionHolds, productHolds, engineHolds, validToHolds, separatorHolds, fieldsHold, weightHolds}
+use Rattle.lines.specs.Rules.{L1, L5, L6, L7, L8, L9, recordHolds}
 
 digit-plain : (b : ℕ) → digit b ≡ true → plain b ≡ true
 digit-plain = between-plain 48 57 (omega arith)

@@ -5,7 +5,7 @@ use Prim.Native.Nat.{ℕ}
 use Rattle.theory.specs.Every.{run}
 use Rattle.fields.specs.Field.{zero}
 use Rattle.times.specs.Order.{earlier}
-use Rattle.lines.specs.Columns.{validTo}
+use Rattle.columns.specs.Columns.{validTo}
 
 -- zeros stay zeros; a time not later than reception becomes reception; a later one stays
 unfoldable pub endOf : List ℕ → List ℕ → List ℕ

@@ -15,8 +15,9 @@ use Rattle.theory.specs.Truth.{and-right, and-split}
 use Rattle.fields.specs.Field.{field, digit, capital, blank}
 use Rattle.times.specs.Moment.{within}
 use Rattle.plates.specs.Plate.{nationality}
-use Rattle.lines.specs.Columns.{actor, nationalityOf}
-use Rattle.lines.specs.Rules.{L1, L2, L3, L4, L5, L6, L7, L8, L9, L10, stateless, lineRules, lineFault, recordHolds}
+use Rattle.vehicles.specs.Vehicle.{L10}
+use Rattle.columns.specs.Columns.{actor, nationalityOf}
+use Rattle.lines.specs.Rules.{L1, L2, L3, L4, L5, L6, L7, L8, L9, stateless, lineRules, lineFault, recordHolds}
 
 pub record Faultless (rows sender l : List ℕ) : Type 0 where
   pub l1 : L1 l ≡ true

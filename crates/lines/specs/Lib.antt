@@ -1,4 +1,3 @@
-pub mod Columns
 pub mod Rules
 pub mod Faultless
 pub mod Coverage

@@ -1,0 +1,19 @@
+-- Assumes nothing.
+use borrow.Author.Needs.{needs}
+use Rattle.vehicles.specs.Vehicle.{classHolds}
+use Rattle.vehicles.proofs.has_class.Statement.{statement}
+use Rattle.vehicles.proofs.has_class.Tie as tie
+
+returns : tie.Need-returns
+unfolding classHolds
+returns c = cc
+
+pub has-class-spec : {M : Type 1} → statement M
+has-class-spec =
+    tie.close
+    (tie.spec
+    (λ c κs. search needs)
+    (λ c κs. search needs)
+    (λ c κs. search needs)
+    (λ c κs. search needs)
+    returns)

@@ -1,0 +1,31 @@
+-- Assumes nothing.
+use borrow.Author.Needs.{needs}
+use native.Mathlib.Omega.{arith}
+use Rattle.fields.specs.Laws.{field-short}
+use Rattle.vehicles.specs.Vehicle.{weightHolds}
+use Rattle.vehicles.proofs.has_light_weight.Statement.{statement}
+use Rattle.vehicles.proofs.has_light_weight.Tie as tie
+
+number-requires : tie.Need-number-requires
+number-requires c κs = field-short 97 100 15 _ _ (c .field2 .ensures) (omega arith)
+
+returns : tie.Need-returns
+unfolding weightHolds
+returns c =
+    rw (
+      c .listed .ensures,
+      c .before .before .number .ensures,
+      c .before .before .before .field2 .ensures,
+      c .before .before .before .before .field .ensures,
+    )
+
+pub has-light-weight-spec : {M : Type 1} → statement M
+has-light-weight-spec =
+    tie.close
+    (tie.spec
+    (λ c κs. search needs)
+    (λ c κs. search needs)
+    number-requires
+    (λ c. search needs)
+    (λ c κs. search needs)
+    returns)

@@ -1,0 +1,18 @@
+-- Assumes nothing.
+use borrow.Author.Needs.{needs}
+use Rattle.vehicles.specs.Vehicle.{validToHolds}
+use Rattle.vehicles.proofs.has_valid_to.Statement.{statement}
+use Rattle.vehicles.proofs.has_valid_to.Tie as tie
+
+returns : tie.Need-returns
+unfolding validToHolds
+returns c = rw (c .is-real-time .ensures, c .before .is-zeros .ensures, c .before .before .field .ensures)
+
+pub has-valid-to-spec : {M : Type 1} → statement M
+has-valid-to-spec =
+    tie.close
+    (tie.spec
+    (λ c κs. search needs)
+    (λ c κs. search needs)
+    (λ c κs. search needs)
+    returns)

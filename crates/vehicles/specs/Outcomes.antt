@@ -1,0 +1,10 @@
+-- Two outcomes of one call are one, for the public function of this crate. Assumes nothing.
+use mathlib.Core.Path.{_≡_}
+use mathlib.Core.Bool.{Bool}
+use mathlib.Core.List.{List}
+use Prim.Native.Nat.{ℕ}
+use Rattle.theory.specs.Outcome.{one-outcome}
+use Rattle.vehicles.specs.Vehicle.{L10}
+
+pub l10-one : (l : List ℕ) (r s : Bool) → r ≡ L10 l → s ≡ L10 l → r ≡ s
+l10-one l r s = one-outcome
