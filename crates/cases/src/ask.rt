@@ -8,37 +8,37 @@ pub fn told(holds: bool) -> u64 {
 }
 
 fn of_time(tag: &[u8], f: &[u8]) -> u64 {
-    if fields::same(tag, b"time    ") {
+    if texts::same(tag, b"time    ") {
         return told(times::is_real_time(f));
     }
-    if fields::same(tag, b"date    ") {
+    if texts::same(tag, b"date    ") {
         return told(times::is_real_date(f));
     }
     crate::vary::of_line(tag, f)
 }
 
 fn of_plate(tag: &[u8], f: &[u8]) -> u64 {
-    if fields::same(tag, b"plate   ") {
+    if texts::same(tag, b"plate   ") {
         return told(plates::is_plate(f));
     }
-    if fields::same(tag, b"nation  ") {
+    if texts::same(tag, b"nation  ") {
         return told(plates::is_nationality(f));
     }
-    if fields::same(tag, b"separate") {
-        let k = plates::plate_characters(fields::field(f, 1, 10));
-        return told(plates::is_separator(fields::field(f, 11, 65536), k));
+    if texts::same(tag, b"separate") {
+        let k = plates::plate_characters(texts::field(f, 1, 10));
+        return told(plates::is_separator(texts::field(f, 11, 65536), k));
     }
     of_time(tag, f)
 }
 
 pub fn answer(tag: &[u8], f: &[u8]) -> u64 {
-    if fields::same(tag, b"luhn    ") {
+    if texts::same(tag, b"luhn    ") {
         return told(pans::is_luhn(f));
     }
-    if fields::same(tag, b"pan     ") {
+    if texts::same(tag, b"pan     ") {
         return told(pans::is_pan(f));
     }
-    if fields::same(tag, b"rows    ") {
+    if texts::same(tag, b"rows    ") {
         return told(issuers::are_rows(f));
     }
     of_plate(tag, f)

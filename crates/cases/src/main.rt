@@ -6,6 +6,7 @@ ghost use Prim.Native.Nat.{_≤_};
 ghost use lib.ListN.{length};
 
 mod ask;
+mod file;
 mod vary;
 
 const NO: u64 = 100;
@@ -27,9 +28,9 @@ fn tell(answer: u64) {
 
 fn case(line: &[u8]) {
     io::write_all(STDOUT_FILENO, line);
-    let tag = fields::field(line, 1, 8);
-    if !fields::same(fields::field(line, 1, 1), b"#") {
-        tell(ask::answer(tag, fields::field(line, 10, 65536)));
+    let tag = texts::field(line, 1, 8);
+    if !texts::same(texts::field(line, 1, 1), b"#") {
+        tell(ask::answer(tag, texts::field(line, 10, 65536)));
     }
     io::write_all(STDOUT_FILENO, b"\n");
 }

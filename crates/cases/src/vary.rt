@@ -12,7 +12,7 @@ fn store(to: &mut [u8], from: usize, i: usize, b: u8) {
     }
 }
 
-fn put(to: &mut [u8], from: usize, text: &[u8]) {
+pub fn put(to: &mut [u8], from: usize, text: &[u8]) {
     let mut i: usize = 0;
     while i < text.len() {
         store(to, from, i, text[i]);
@@ -20,32 +20,36 @@ fn put(to: &mut [u8], from: usize, text: &[u8]) {
     }
 }
 
-// The right line, and over it what `f` says.
-fn vary(line: &mut [u8], f: &[u8]) {
+pub fn right_line(to: &mut [u8], from: usize) {
     put(
-        line,
-        1,
+        to,
+        from,
         b"1900123      9799001200000002   ABC123    NO 12  30C00B00050330C00B001222070321Euro6 02N   004000000000000000000003000000000000\n",
     );
+}
+
+// The right line, and over it what `f` says.
+fn vary(line: &mut [u8], f: &[u8]) {
+    right_line(line, 1);
     put(
         line,
-        fields::number(fields::field(f, 1, 3)) as usize,
-        fields::field(f, 5, 65536),
+        fields::number(texts::field(f, 1, 3)) as usize,
+        texts::field(f, 5, 65536),
     );
 }
 
 pub fn of_line(tag: &[u8], f: &[u8]) -> u64 {
     let mut line = [0u8; 128];
-    if fields::same(tag, b"under   ") {
+    if texts::same(tag, b"under   ") {
         vary(&mut line, b"");
         return lines::line_fault(&line, b"900123", f);
     }
     vary(&mut line, f);
-    if fields::same(tag, b"line    ") {
+    if texts::same(tag, b"line    ") {
         return lines::line_fault(&line, b"900123", b"97990012      0816900123");
     }
-    if fields::same(tag, b"record  ") {
+    if texts::same(tag, b"record  ") {
         return told(lines::is_record(&line));
     }
-    255
+    crate::file::of_file(tag, f)
 }

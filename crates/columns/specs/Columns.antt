@@ -1,7 +1,7 @@
 -- The columns of a body line, by their positions in the document's table. Assumes nothing.
 use mathlib.Core.List.{List}
 use Prim.Native.Nat.{ℕ}
-use Rattle.fields.specs.Field.{field}
+use Rattle.texts.specs.Field.{field}
 
 -- the text of a line: what stands between the register identifier and the end of the record
 abbrev pub text : List ℕ → List ℕ

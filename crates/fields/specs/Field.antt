@@ -1,17 +1,10 @@
--- What one field of a line, a header or a row may hold, and where it stands. Positions count from 1; text is
--- ISO 8859-1, so '0' is 48 and ' ' is 32. Assumes nothing.
-use Prim.Native.Nat.{ℕ, _+_, _*_, _-_, _/_}
+-- What one field of a line, a header or a row may hold. Text is ISO 8859-1, so '0' is 48 and ' ' is 32. Assumes nothing.
+use Prim.Native.Nat.{ℕ, _+_, _*_, _-_}
 use mathlib.Core.Bool.{Bool, _&&_, _||_}
 use mathlib.Core.List.{List, [], _∷_}
 use lib.Dec.{leb, ltb}
-use lib.ListN.{length, take, drop}
-use Rattle.theory.specs.Same.{mem}
+use lib.ListN.{length, drop}
 use Rattle.theory.specs.Every.{all, leading}
-use Rattle.theory.specs.Parts.{chop}
-
--- positions `from` to `to`; what lies behind the end of a text that is too short is missing
-unfoldable pub field : ℕ → ℕ → List ℕ → List ℕ
-field from to text = take (to + 1 - from) (drop (from - 1) text)
 
 abbrev pub between : ℕ → ℕ → ℕ → Bool
 between lo hi b = leb lo b && leb b hi
@@ -54,7 +47,3 @@ numberAfter n (x ∷ xs) = numberAfter (n * 10 + (x - 48)) xs
 
 unfoldable pub number : List ℕ → ℕ
 number = numberAfter 0
-
--- one of the entries of a table, which stand one behind the other, each `width` bytes long
-unfoldable pub listed : ℕ → List ℕ → List ℕ → Bool
-listed width table f = mem f (chop width (length table / width) table)

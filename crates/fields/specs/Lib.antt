@@ -1,4 +1,3 @@
 pub mod Field
-pub mod Laws
 pub mod Plain
 pub mod Outcomes

@@ -13,7 +13,8 @@ use Rattle.theory.specs.Truth.{and-left, and-right, and-split, and-both}
 use Rattle.theory.specs.Same.{eqs, eqs-true, mem}
 use Rattle.theory.specs.Every.{all, run, leading, run-length, run-all, all-run, all-take, all-drop, all-wider, all-append, leading-all}
 use Rattle.theory.specs.Parts.{chop}
-use Rattle.fields.specs.Field.{field, between, blank, plain, filledTo, filled, listed}
+use Rattle.texts.specs.Field.{field, listed}
+use Rattle.fields.specs.Field.{between, blank, plain, filledTo, filled}
 
 -- characters from the blank on are plain
 pub between-plain : (lo hi : ℕ) → 32 ≤ lo → (b : ℕ) → between lo hi b ≡ true → plain b ≡ true

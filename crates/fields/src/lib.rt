@@ -1,53 +1,10 @@
 // What one field may hold. Every function takes a slice of any length: a field of another length than asked is
 // simply not in form.
 ghost use mathlib.Core.Path.{_≡_};
-ghost use Prim.Native.Nat.{_+_, _*_, _-_, _≤_, _<_};
+ghost use Prim.Native.Nat.{_-_, _≤_};
 ghost use lib.ListN.{length};
-ghost use Rattle.theory.specs.Same.{eqs};
 ghost use Rattle.theory.specs.Every.{all, run, leading};
-ghost use Rattle.theory.specs.Parts.{partAt};
-ghost use Rattle.fields.specs.Field.{field, between, digit, zero, blank, capital, hex, filledTo, number, listed};
-
-// Positions `from` to `to` of a text, counted from 1.
-pub fn field<'a>(text: &'a [u8], from: usize, to: usize) -> &'a [u8]
-    requires { ⌜ (1 ≤ from) × (from ≤ to) ⌝ }
-    ensures { λ r. ⌜ now r ≡ field from to (now (text .entry)) ⌝ }
-{
-    if text.len() < from {
-        return &text[0..0];
-    }
-    let start = from - 1;
-    if text.len() < to {
-        return &text[start..];
-    }
-    &text[start..to]
-}
-
-// The part at place i of a block whose parts are `width` bytes long, counted from 0.
-pub fn part<'a>(block: &'a [u8], width: usize, i: usize) -> &'a [u8]
-    requires { ⌜ i * width + width ≤ length (now block) ⌝ }
-    ensures { λ r. ⌜ now r ≡ partAt width i (now (block .entry)) ⌝ }
-{
-    let at = i * width;
-    let end = at + width;
-    &block[at..end]
-}
-
-pub fn same(a: &[u8], b: &[u8]) -> bool
-    ensures { λ r. ⌜ r ≡ eqs (now (a .entry)) (now (b .entry)) ⌝ }
-{
-    if a.len() != b.len() {
-        return false;
-    }
-    let mut i: usize = 0;
-    while i < a.len() {
-        if a[i] != b[i] {
-            return false;
-        }
-        i += 1;
-    }
-    true
-}
+ghost use Rattle.fields.specs.Field.{between, digit, zero, blank, capital, hex, filledTo, number};
 
 fn is_between(b: u8, lo: u8, hi: u8) -> bool
     ensures { λ r. ⌜ r ≡ between lo hi b ⌝ }
@@ -170,20 +127,4 @@ pub fn number(f: &[u8]) -> u64
         i += 1;
     }
     n
-}
-
-// Is `f` an entry of a table whose entries are `width` bytes long.
-pub fn listed(f: &[u8], width: usize, table: &[u8]) -> bool
-    requires { ⌜ 0 < width ⌝ }
-    ensures { λ r. ⌜ r ≡ listed width (now (table .entry)) (now (f .entry)) ⌝ }
-{
-    let n = table.len() / width;
-    let mut i: usize = 0;
-    while i < n {
-        if same(f, part(table, width, i)) {
-            return true;
-        }
-        i += 1;
-    }
-    false
 }

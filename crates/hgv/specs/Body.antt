@@ -2,15 +2,15 @@
 use Prim.Native.Nat.{ℕ, _-_}
 use mathlib.Core.Bool.{Bool, _&&_}
 use mathlib.Core.List.{List}
-use lib.Dec.{eqb, leb}
+use lib.Dec.{eqb}
 use lib.ListN.{length}
 use Rattle.theory.specs.Text.{bytes}
 use Rattle.theory.specs.Same.{eqs}
 use Rattle.theory.specs.Every.{all, run}
 use Rattle.theory.specs.Walk.{each}
-use Rattle.fields.specs.Field.{field, zero}
+use Rattle.texts.specs.Field.{field, lineEnd}
+use Rattle.fields.specs.Field.{zero, plain}
 use Rattle.hgv.specs.Layout.{lineLength, footerLength, linesOf, footer}
-use Rattle.hgv.specs.Header.{lineEnd}
 
 -- `2`, 62 zeros, LF
 unfoldable pub footerForm : List ℕ → Bool
@@ -19,10 +19,6 @@ footerForm f = eqb (length f) footerLength && eqs (field 1 1 f) (bytes "2") && r
 -- stop 31 is given where this does not hold
 unfoldable pub footerHolds : List ℕ → Bool
 footerHolds h = footerForm (footer h)
-
--- a byte of a line's text is not below 32
-abbrev pub plain : ℕ → Bool
-plain b = leb 32 b
 
 -- a line of the given width: `1` in front, LF at its end, no byte below 32 between
 unfoldable pub framed : ℕ → List ℕ → Bool

@@ -6,8 +6,7 @@ use Prim.Native.Nat.{ℕ, _+_, _*_, _-_, _%_, _≤_}
 use native.Mathlib.Omega.{arith}
 use native.Mathlib.Nat.{div-add-mod'}
 use lib.Dec.{eqb, leb}
-use lib.ListN.{length, drop, length-take, length-drop}
-use lib.Seq.{take-add, take-all, drop-drop}
+use lib.ListN.{length, length-take, length-drop}
 use borrow.Author.Tests.{eqb-true, leb-true}
 use Rattle.theory.specs.Truth.{and-left, and-right}
 use Rattle.theory.specs.Text.{bytes}
@@ -16,10 +15,11 @@ use Rattle.theory.specs.Every.{all}
 use Rattle.theory.specs.Parts.{length-chop}
 use Rattle.theory.specs.Each.{Each}
 use Rattle.theory.specs.Join.{each-chop}
-use Rattle.fields.specs.Field.{field}
+use Rattle.texts.specs.Field.{field, lineEnd}
+use Rattle.fields.specs.Field.{plain}
+use Rattle.texts.specs.Laws.{field-split, field-all}
 use Rattle.hgv.specs.Layout.{headerLength, lineLength, footerLength, linesMost, bodyLength, linesIn, lengthHolds, body, linesOf}
-use Rattle.hgv.specs.Header.{lineEnd}
-use Rattle.hgv.specs.Body.{plain, framed}
+use Rattle.hgv.specs.Body.{framed}
 
 -- the three tests of the length
 abbrev long : List ℕ → Bool
@@ -67,18 +67,6 @@ module _ (h : List ℕ) where
     pub lines-most : linesIn h ≤ linesMost
     unfolding lengthHolds
     lines-most = leb-true (linesIn h) linesMost (and-right (long h && lined h) (few h) e)
-
--- a field is its front and its rest
-field-split : (from to mid : ℕ) (l : List ℕ) → 1 ≤ from → from ≤ mid → mid ≤ to → field from to l ≡ field from mid l ++ field (mid + 1) to l
-unfolding field
-field-split from to mid l a b c =
-    let m : to + 1 - from ≡ (mid + 1 - from) + (to + 1 - (mid + 1)) = omega arith in
-    let d : from - 1 + (mid + 1 - from) ≡ mid + 1 - 1 = omega arith in
-    rw (m, take-add (mid + 1 - from) (to + 1 - (mid + 1)) (drop (from - 1) l), drop-drop (mid + 1 - from) (from - 1) l, d)
-
-field-all : (n : ℕ) (l : List ℕ) → length l ≤ n → field 1 n l ≡ l
-unfolding field
-field-all n l h = take-all (n + 1 - 1) l (omega arith)
 
 -- a line is its two ends and the text between
 pub framed-is : (width : ℕ) (l : List ℕ) → framed width l ≡ true → length l ≡ width → 3 ≤ width → l ≡ 49 ∷ (field 2 (width - 1) l ++ (10 ∷ []))

@@ -5,7 +5,6 @@ use mathlib.Core.List.{List}
 use Prim.Native.Nat.{ℕ}
 use Rattle.theory.specs.Outcome.{one-outcome}
 use Rattle.hgv.specs.Layout.{linesIn, lengthHolds, body}
-use Rattle.hgv.specs.Header.{sequence, headerHolds, versionHolds, incrementalOnly, receiverHolds, countHolds}
 use Rattle.hgv.specs.Body.{footerForm, footerHolds, framesHold}
 
 pub length-one : (h : List ℕ) (r s : Bool) → r ≡ lengthHolds h → s ≡ lengthHolds h → r ≡ s
@@ -16,24 +15,6 @@ lines-one h r s = one-outcome
 
 pub body-one : (h r s : List ℕ) → r ≡ body h → s ≡ body h → r ≡ s
 body-one h r s = one-outcome
-
-pub sequence-one : (from f : List ℕ) (r s : Bool) → r ≡ sequence from f → s ≡ sequence from f → r ≡ s
-sequence-one from f r s = one-outcome
-
-pub header-one : (h : List ℕ) (r s : Bool) → r ≡ headerHolds h → s ≡ headerHolds h → r ≡ s
-header-one h r s = one-outcome
-
-pub version-one : (h : List ℕ) (r s : Bool) → r ≡ versionHolds h → s ≡ versionHolds h → r ≡ s
-version-one h r s = one-outcome
-
-pub incremental-one : (h : List ℕ) (r s : Bool) → r ≡ incrementalOnly h → s ≡ incrementalOnly h → r ≡ s
-incremental-one h r s = one-outcome
-
-pub receiver-one : (h : List ℕ) (r s : Bool) → r ≡ receiverHolds h → s ≡ receiverHolds h → r ≡ s
-receiver-one h r s = one-outcome
-
-pub count-one : (h : List ℕ) (r s : Bool) → r ≡ countHolds h → s ≡ countHolds h → r ≡ s
-count-one h r s = one-outcome
 
 pub footer-form-one : (f : List ℕ) (r s : Bool) → r ≡ footerForm f → s ≡ footerForm f → r ≡ s
 footer-form-one f r s = one-outcome

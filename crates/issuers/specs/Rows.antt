@@ -10,7 +10,8 @@ use Rattle.theory.specs.Every.{run, leading}
 use Rattle.theory.specs.Parts.{chop}
 use Rattle.theory.specs.Walk.{each, some}
 use Rattle.issuers.specs.declared.Issued.{Issued}
-use Rattle.fields.specs.Field.{field, digit, filled, number}
+use Rattle.texts.specs.Field.{field}
+use Rattle.fields.specs.Field.{digit, filled, number}
 
 -- a row's length, and the most rows
 abbrev pub rowLength : ℕ

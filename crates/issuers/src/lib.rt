@@ -39,11 +39,11 @@ const ACTOR_TO: usize = 24;
 fn is_row(r: &[u8]) -> bool
     ensures { λ t. ⌜ t ≡ row (now (r .entry)) ⌝ }
 {
-    let bin = fields::field(r, BIN_FROM, BIN_TO);
+    let bin = texts::field(r, BIN_FROM, BIN_TO);
     let given = fields::digits_in(bin);
-    let bin_length = fields::field(r, BIN_LENGTH_FROM, BIN_LENGTH_TO);
+    let bin_length = texts::field(r, BIN_LENGTH_FROM, BIN_LENGTH_TO);
     let used = fields::number(bin_length);
-    let pan_length = fields::field(r, PAN_LENGTH_FROM, PAN_LENGTH_TO);
+    let pan_length = texts::field(r, PAN_LENGTH_FROM, PAN_LENGTH_TO);
     let digits = fields::number(pan_length);
     (6 <= given)
         & fields::is_filled(bin, given)
@@ -54,7 +54,7 @@ fn is_row(r: &[u8]) -> bool
         & fields::is_digits(pan_length, 2)
         & (used < digits)
         & (digits <= 19)
-        & fields::is_digits(fields::field(r, ACTOR_FROM, ACTOR_TO), 6)
+        & fields::is_digits(texts::field(r, ACTOR_FROM, ACTOR_TO), 6)
 }
 
 fn each_row(b: &[u8], n: usize) -> bool
@@ -63,7 +63,7 @@ fn each_row(b: &[u8], n: usize) -> bool
 {
     let mut i: usize = 0;
     while i < n {
-        if !is_row(fields::part(b, ROW, i)) {
+        if !is_row(texts::part(b, ROW, i)) {
             return false;
         }
         i += 1;
@@ -81,7 +81,7 @@ pub fn are_rows(b: &[u8]) -> bool
 fn is_sent_by(sender: &[u8], r: &[u8]) -> bool
     ensures { λ t. ⌜ t ≡ sentBy (now (sender .entry)) (now (r .entry)) ⌝ }
 {
-    fields::same(fields::field(r, ACTOR_FROM, ACTOR_TO), sender)
+    texts::same(texts::field(r, ACTOR_FROM, ACTOR_TO), sender)
 }
 
 // Does a row have the sender.
@@ -92,7 +92,7 @@ pub fn is_known(b: &[u8], sender: &[u8]) -> bool
     let mut found = false;
     let mut i: usize = 0;
     while i < n {
-        found = found | is_sent_by(sender, fields::part(b, ROW, i));
+        found = found | is_sent_by(sender, texts::part(b, ROW, i));
         i += 1;
     }
     found
@@ -112,16 +112,16 @@ fn head<'a>(s: &'a [u8], n: u64) -> &'a [u8]
 fn is_beginning(sender: &[u8], pan: &[u8], r: &[u8]) -> bool
     ensures { λ t. ⌜ t ≡ beginning (now (sender .entry)) (now (pan .entry)) (now (r .entry)) ⌝ }
 {
-    let used = fields::number(fields::field(r, BIN_LENGTH_FROM, BIN_LENGTH_TO));
-    let bin = fields::field(r, BIN_FROM, BIN_TO);
-    is_sent_by(sender, r) & fields::same(head(bin, used), head(pan, used))
+    let used = fields::number(texts::field(r, BIN_LENGTH_FROM, BIN_LENGTH_TO));
+    let bin = texts::field(r, BIN_FROM, BIN_TO);
+    is_sent_by(sender, r) & texts::same(head(bin, used), head(pan, used))
 }
 
 // The row begins the PAN, of `digits` digits, and has this number of digits.
 fn is_fitting(r: &[u8], begins: bool, digits: usize) -> bool
     ensures { λ t. ⌜ t ≡ begins && eqb (panLength (now (r .entry))) digits ⌝ }
 {
-    begins & (fields::number(fields::field(r, PAN_LENGTH_FROM, PAN_LENGTH_TO)) == digits as u64)
+    begins & (fields::number(texts::field(r, PAN_LENGTH_FROM, PAN_LENGTH_TO)) == digits as u64)
 }
 
 pub fn issued_to(b: &[u8], sender: &[u8], pan: &[u8]) -> Issued
@@ -133,7 +133,7 @@ pub fn issued_to(b: &[u8], sender: &[u8], pan: &[u8]) -> Issued
     let mut fits = false;
     let mut i: usize = 0;
     while i < n {
-        let r = fields::part(b, ROW, i);
+        let r = texts::part(b, ROW, i);
         let t = is_beginning(sender, pan, r);
         begins = begins | t;
         fits = fits | is_fitting(r, t, digits);

@@ -2,7 +2,7 @@
 use mathlib.Core.Path.{_≡_, ap}
 use mathlib.Core.List.{List}
 use Prim.Native.Nat.{ℕ}
-use Rattle.fields.specs.Field.{field}
+use Rattle.texts.specs.Field.{field}
 use Rattle.issuers.specs.Rows.{begun, fitted, issuedOf}
 use Rattle.issuers.specs.declared.Issued.{Issued}
 use Rattle.columns.specs.Columns.{panOf}

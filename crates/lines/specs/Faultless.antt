@@ -12,7 +12,8 @@ use Rattle.theory.specs.First.{None, none, more, choose, first, first-clear, nu
 use Rattle.theory.specs.Same.{eqs-true}
 use Rattle.theory.specs.Every.{run, run-length, run-all, all-at}
 use Rattle.theory.specs.Truth.{and-right, and-split}
-use Rattle.fields.specs.Field.{field, digit, capital, blank}
+use Rattle.texts.specs.Field.{field}
+use Rattle.fields.specs.Field.{digit, capital, blank}
 use Rattle.times.specs.Moment.{within}
 use Rattle.plates.specs.Plate.{nationality}
 use Rattle.vehicles.specs.Vehicle.{L10}

@@ -7,20 +7,20 @@ ghost use Rattle.lines.specs.Rules.{stateless, L1, L2, L5, L6, L7, L8, L
 fn holds_l6(l: &[u8]) -> bool
     ensures { λ r. ⌜ r ≡ L6 (now (l .entry)) ⌝ }
 {
-    plates::is_plate(fields::field(l, columns::PLATE_FROM, columns::PLATE_TO))
+    plates::is_plate(texts::field(l, columns::PLATE_FROM, columns::PLATE_TO))
 }
 
 fn holds_l7(l: &[u8]) -> bool
     ensures { λ r. ⌜ r ≡ L7 (now (l .entry)) ⌝ }
 {
-    plates::is_nationality(fields::field(l, columns::NATIONALITY_FROM, columns::NATIONALITY_TO))
+    plates::is_nationality(texts::field(l, columns::NATIONALITY_FROM, columns::NATIONALITY_TO))
 }
 
 fn holds_l8(l: &[u8]) -> bool
     ensures { λ r. ⌜ r ≡ L8 (now (l .entry)) ⌝ }
 {
     fields::is_hex(
-        fields::field(l, columns::CONTEXT_MARK_FROM, columns::CONTEXT_MARK_TO),
+        texts::field(l, columns::CONTEXT_MARK_FROM, columns::CONTEXT_MARK_TO),
         12,
     )
 }
@@ -29,7 +29,7 @@ fn holds_l9(l: &[u8]) -> bool
     ensures { λ r. ⌜ r ≡ L9 (now (l .entry)) ⌝ }
 {
     fields::is_hex(
-        fields::field(l, columns::OBE_ID_FROM, columns::OBE_ID_TO),
+        texts::field(l, columns::OBE_ID_FROM, columns::OBE_ID_TO),
         18,
     )
 }
@@ -44,14 +44,14 @@ fn first(broken: bool, reason: u64, later: u64) -> u64
 fn holds_l1(l: &[u8]) -> bool
     ensures { λ r. ⌜ r ≡ L1 (now (l .entry)) ⌝ }
 {
-    pans::is_pan(fields::field(l, columns::PAN_FROM, columns::PAN_TO))
+    pans::is_pan(texts::field(l, columns::PAN_FROM, columns::PAN_TO))
 }
 
 fn holds_l2(l: &[u8], sender: &[u8]) -> bool
     ensures { λ r. ⌜ r ≡ L2 (now (sender .entry)) (now (l .entry)) ⌝ }
 {
-    fields::same(
-        fields::field(l, columns::ACTOR_FROM, columns::ACTOR_TO),
+    texts::same(
+        texts::field(l, columns::ACTOR_FROM, columns::ACTOR_TO),
         sender,
     )
 }
@@ -59,14 +59,14 @@ fn holds_l2(l: &[u8], sender: &[u8]) -> bool
 fn holds_l5(l: &[u8]) -> bool
     ensures { λ r. ⌜ r ≡ L5 (now (l .entry)) ⌝ }
 {
-    pans::is_luhn(fields::field(l, columns::PAN_FROM, columns::PAN_TO))
+    pans::is_luhn(texts::field(l, columns::PAN_FROM, columns::PAN_TO))
 }
 
 fn is_stateless(l: &[u8]) -> bool
     ensures { λ r. ⌜ r ≡ stateless (now (l .entry)) ⌝ }
 {
     fields::is_blanks(
-        fields::field(l, columns::NATIONALITY_FROM, columns::NATIONALITY_TO),
+        texts::field(l, columns::NATIONALITY_FROM, columns::NATIONALITY_TO),
         3,
     )
 }
@@ -79,7 +79,7 @@ pub fn line_fault(l: &[u8], sender: &[u8], rows: &[u8]) -> u64
     let issued = issuers::issued_to(
         rows,
         sender,
-        fields::field(l, columns::PAN_FROM, columns::PAN_TO),
+        texts::field(l, columns::PAN_FROM, columns::PAN_TO),
     );
     let begins = issued.begins;
     let fits = issued.fits;
@@ -100,7 +100,7 @@ pub fn line_fault(l: &[u8], sender: &[u8], rows: &[u8]) -> u64
 pub fn is_record(l: &[u8]) -> bool
     ensures { λ r. ⌜ r ≡ recordHolds (now (l .entry)) ⌝ }
 {
-    fields::is_digits(fields::field(l, columns::ACTOR_FROM, columns::ACTOR_TO), 6)
+    fields::is_digits(texts::field(l, columns::ACTOR_FROM, columns::ACTOR_TO), 6)
         & holds_l1(l)
         & holds_l5(l)
         & holds_l6(l)

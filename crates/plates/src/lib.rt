@@ -296,8 +296,8 @@ pub fn is_nationality(f: &[u8]) -> bool
     ensures { λ r. ⌜ r ≡ nationality (now (f .entry)) ⌝ }
 {
     (f.len() == 3)
-        & fields::is_capitals(fields::field(f, 1, 2), 2)
-        & fields::is_blanks(fields::field(f, 3, 3), 1)
+        & fields::is_capitals(texts::field(f, 1, 2), 2)
+        & fields::is_blanks(texts::field(f, 3, 3), 1)
 }
 
 // q <= k + 1, for every k.
@@ -332,7 +332,7 @@ fn is_separated(p: u64, q: u64, k: usize) -> bool
 pub fn is_separator(f: &[u8], k: usize) -> bool
     ensures { λ r. ⌜ r ≡ separator (now (f .entry)) k ⌝ }
 {
-    let p = fields::number(fields::field(f, 1, 1));
-    let q = fields::number(fields::field(f, 2, 2));
+    let p = fields::number(texts::field(f, 1, 1));
+    let q = fields::number(texts::field(f, 2, 2));
     fields::is_digits(f, 2) & is_separated(p, q, k)
 }

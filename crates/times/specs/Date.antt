@@ -11,7 +11,8 @@ use borrow.Author.Tests.{eqb-true, eq-eqb}
 use Rattle.theory.specs.Text.{bytes}
 use Rattle.theory.specs.Truth.{and-left, same-truth}
 use Rattle.theory.specs.Every.{all, run, all-append}
-use Rattle.fields.specs.Field.{field, digit, number, numberAfter}
+use Rattle.texts.specs.Field.{field}
+use Rattle.fields.specs.Field.{digit, number, numberAfter}
 use Rattle.times.specs.Time.{year, month, day, hour, minute, second, realDay, realClock, realMoment, realTime, realDate}
 use Rattle.times.specs.Moment.{real-all, real-numbers}
 

@@ -6,7 +6,8 @@ use mathlib.Core.List.{List, _++_}
 use lib.Dec.{leb, eqb}
 use Rattle.theory.specs.Text.{bytes}
 use Rattle.theory.specs.Every.{run}
-use Rattle.fields.specs.Field.{field, between, digit, number}
+use Rattle.texts.specs.Field.{field}
+use Rattle.fields.specs.Field.{between, digit, number}
 
 -- a leap year of the Gregorian calendar
 abbrev pub leap : ℕ → Bool

@@ -6,7 +6,8 @@ use mathlib.Core.List.{List}
 use lib.Dec.{eqb, leb, ltb}
 use Rattle.theory.specs.Text.{bytes}
 use Rattle.theory.specs.Every.{run}
-use Rattle.fields.specs.Field.{digit, zero, blank, number, listed}
+use Rattle.texts.specs.Field.{listed}
+use Rattle.fields.specs.Field.{digit, zero, blank, number}
 use Rattle.times.specs.Time.{realTime}
 use Rattle.plates.specs.Plate.{plateCharacters, separator}
 use Rattle.columns.specs.Columns.{shadow, plateOf, tariff, class, axles, emission, fuel, chargeable, productRest, engine, co2, weight, validTo, separatorOf, filler}

@@ -11,8 +11,8 @@ const LIGHT_MOST: u64 = 350;
 fn has_tariff(l: &[u8]) -> bool
     ensures { λ r. ⌜ r ≡ tariffHolds (now (l .entry)) ⌝ }
 {
-    fields::listed(
-        fields::field(l, columns::TARIFF_FROM, columns::TARIFF_TO),
+    texts::listed(
+        texts::field(l, columns::TARIFF_FROM, columns::TARIFF_TO),
         2,
         b"1222313241516371",
     )
@@ -27,15 +27,15 @@ fn is_digit_or_blank(f: &[u8]) -> bool
 fn has_class(l: &[u8]) -> bool
     ensures { λ r. ⌜ r ≡ classHolds (now (l .entry)) ⌝ }
 {
-    is_digit_or_blank(fields::field(l, columns::CLASS, columns::CLASS))
-        & is_digit_or_blank(fields::field(l, columns::AXLES, columns::AXLES))
+    is_digit_or_blank(texts::field(l, columns::CLASS, columns::CLASS))
+        & is_digit_or_blank(texts::field(l, columns::AXLES, columns::AXLES))
 }
 
 fn has_emission(l: &[u8]) -> bool
     ensures { λ r. ⌜ r ≡ emissionHolds (now (l .entry)) ⌝ }
 {
-    fields::listed(
-        fields::field(l, columns::EMISSION_FROM, columns::EMISSION_TO),
+    texts::listed(
+        texts::field(l, columns::EMISSION_FROM, columns::EMISSION_TO),
         6,
         b"0     EEV   Euro1 Euro2 Euro3 Euro4 Euro5 Euro6 Euro7 ",
     )
@@ -44,18 +44,18 @@ fn has_emission(l: &[u8]) -> bool
 fn has_product(l: &[u8]) -> bool
     ensures { λ r. ⌜ r ≡ productHolds (now (l .entry)) ⌝ }
 {
-    fields::listed(
-        fields::field(l, columns::FUEL_FROM, columns::FUEL_TO),
+    texts::listed(
+        texts::field(l, columns::FUEL_FROM, columns::FUEL_TO),
         2,
         b"01020304050609101112131415202122",
     )
-        & fields::listed(
-            fields::field(l, columns::CHARGEABLE, columns::CHARGEABLE),
+        & texts::listed(
+            texts::field(l, columns::CHARGEABLE, columns::CHARGEABLE),
             1,
             b"YN",
         )
         & fields::is_blanks(
-            fields::field(l, columns::PRODUCT_REST_FROM, columns::PRODUCT_REST_TO),
+            texts::field(l, columns::PRODUCT_REST_FROM, columns::PRODUCT_REST_TO),
             3,
         )
 }
@@ -63,7 +63,7 @@ fn has_product(l: &[u8]) -> bool
 fn has_engine(l: &[u8]) -> bool
     ensures { λ r. ⌜ r ≡ engineHolds (now (l .entry)) ⌝ }
 {
-    let engine = fields::field(l, columns::ENGINE_FROM, columns::ENGINE_TO);
+    let engine = texts::field(l, columns::ENGINE_FROM, columns::ENGINE_TO);
     let n = fields::number(engine);
     fields::is_digits(engine, 3) & ((n <= 52) | (n == 255))
 }
@@ -71,16 +71,16 @@ fn has_engine(l: &[u8]) -> bool
 fn has_valid_to(l: &[u8]) -> bool
     ensures { λ r. ⌜ r ≡ validToHolds (now (l .entry)) ⌝ }
 {
-    let valid_to = fields::field(l, columns::VALID_TO_FROM, columns::VALID_TO_TO);
+    let valid_to = texts::field(l, columns::VALID_TO_FROM, columns::VALID_TO_TO);
     fields::is_zeros(valid_to, 14) | times::is_real_time(valid_to)
 }
 
 fn has_separator(l: &[u8]) -> bool
     ensures { λ r. ⌜ r ≡ separatorHolds (now (l .entry)) ⌝ }
 {
-    let plate = fields::field(l, columns::PLATE_FROM, columns::PLATE_TO);
+    let plate = texts::field(l, columns::PLATE_FROM, columns::PLATE_TO);
     plates::is_separator(
-        fields::field(l, columns::SEPARATOR_FROM, columns::SEPARATOR_TO),
+        texts::field(l, columns::SEPARATOR_FROM, columns::SEPARATOR_TO),
         plates::plate_characters(plate),
     )
 }
@@ -88,23 +88,17 @@ fn has_separator(l: &[u8]) -> bool
 fn has_fields(l: &[u8]) -> bool
     ensures { λ r. ⌜ r ≡ fieldsHold (now (l .entry)) ⌝ }
 {
-    fields::is_blanks(
-        fields::field(l, columns::SHADOW_FROM, columns::SHADOW_TO),
-        6,
-    )
+    fields::is_blanks(texts::field(l, columns::SHADOW_FROM, columns::SHADOW_TO), 6)
         & has_tariff(l)
         & has_class(l)
         & has_product(l)
         & has_engine(l)
-        & fields::is_digits(fields::field(l, columns::CO2_FROM, columns::CO2_TO), 2)
-        & fields::is_digits(
-            fields::field(l, columns::WEIGHT_FROM, columns::WEIGHT_TO),
-            4,
-        )
+        & fields::is_digits(texts::field(l, columns::CO2_FROM, columns::CO2_TO), 2)
+        & fields::is_digits(texts::field(l, columns::WEIGHT_FROM, columns::WEIGHT_TO), 4)
         & has_valid_to(l)
         & has_separator(l)
         & fields::is_zeros(
-            fields::field(l, columns::FILLER_FROM, columns::FILLER_TO),
+            texts::field(l, columns::FILLER_FROM, columns::FILLER_TO),
             11,
         )
 }
@@ -112,9 +106,9 @@ fn has_fields(l: &[u8]) -> bool
 fn has_light_weight(l: &[u8]) -> bool
     ensures { λ r. ⌜ r ≡ weightHolds (now (l .entry)) ⌝ }
 {
-    let tariff = fields::field(l, columns::TARIFF_FROM, columns::TARIFF_TO);
-    let weight = fields::number(fields::field(l, columns::WEIGHT_FROM, columns::WEIGHT_TO));
-    !(fields::listed(tariff, 2, b"1222") & (LIGHT_MOST < weight))
+    let tariff = texts::field(l, columns::TARIFF_FROM, columns::TARIFF_TO);
+    let weight = fields::number(texts::field(l, columns::WEIGHT_FROM, columns::WEIGHT_TO));
+    !(texts::listed(tariff, 2, b"1222") & (LIGHT_MOST < weight))
 }
 
 pub fn holds_l10(l: &[u8]) -> bool

@@ -6,7 +6,7 @@ use native.Mathlib.Omega.{arith}
 use borrow.Author.Tests.{le-leb, lt-leb}
 use lib.ListN.{length}
 use Rattle.theory.specs.Every.{all, allFrom, all-start, all-on, all-off, all-end}
-use Rattle.hgv.specs.Body.{plain}
+use Rattle.fields.specs.Field.{plain}
 use Rattle.hgv.proofs.is_plain.Statement.{statement}
 use Rattle.hgv.proofs.is_plain.Tie as tie
 

@@ -1,6 +1,6 @@
 -- Assumes nothing.
 use borrow.Author.Needs.{needs}
-use Rattle.fields.specs.Field.{field}
+use Rattle.texts.specs.Field.{field}
 use Rattle.issuers.specs.Rows.{sentBy}
 use Rattle.issuers.proofs.is_sent_by.Statement.{statement}
 use Rattle.issuers.proofs.is_sent_by.Tie as tie

@@ -1,6 +1,6 @@
 -- Assumes nothing.
 use borrow.Author.Needs.{needs}
-use Rattle.fields.specs.Field.{field}
+use Rattle.texts.specs.Field.{field}
 use Rattle.plates.specs.Plate.{nationality}
 use Rattle.plates.proofs.is_nationality.Statement.{statement}
 use Rattle.plates.proofs.is_nationality.Tie as tie

@@ -1,8 +1,9 @@
 -- Assumes nothing.
 use borrow.Author.Needs.{needs}
 use native.Mathlib.Omega.{arith}
-use Rattle.fields.specs.Field.{field, number}
-use Rattle.fields.specs.Laws.{field-most}
+use Rattle.texts.specs.Field.{field}
+use Rattle.fields.specs.Field.{number}
+use Rattle.texts.specs.Laws.{field-most}
 use Rattle.times.proofs.number_at.Statement.{statement}
 use Rattle.times.proofs.number_at.Tie as tie
 

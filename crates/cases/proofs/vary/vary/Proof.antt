@@ -1,7 +1,7 @@
 -- Assumes nothing.
 use borrow.Author.Needs.{needs}
 use native.Mathlib.Omega.{arith}
-use Rattle.fields.specs.Laws.{field-short}
+use Rattle.texts.specs.Laws.{field-short}
 use Rattle.cases.proofs.vary.vary.Statement.{statement}
 use Rattle.cases.proofs.vary.vary.Tie as tie
 
@@ -12,7 +12,6 @@ pub vary-spec : {M : Type 1} → statement M
 vary-spec =
     tie.close
     (tie.spec
-    (λ c. search needs)
     (λ c κs. search needs)
     (λ c κs. search needs)
     number-requires

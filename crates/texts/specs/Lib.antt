@@ -1,0 +1,3 @@
+pub mod Field
+pub mod Laws
+pub mod Outcomes
