@@ -15,7 +15,15 @@ number-requires-2 c κs = field-short 2 2 15 _ _ (c .field2 .ensures) (omega ari
 
 returns : tie.Need-returns
 unfolding separator
-returns c = cc
+returns c =
+    rw (
+      c .is-separated .ensures,
+      c .before .is-digits .ensures,
+      c .before .before .number2 .ensures,
+      c .before .before .before .field2 .ensures,
+      c .before .before .before .before .number .ensures,
+      c .before .before .before .before .before .field .ensures,
+    )
 
 pub is-separator-spec : {M : Type 1} → statement M
 is-separator-spec =
