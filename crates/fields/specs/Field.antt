@@ -17,6 +17,10 @@ digit = between 48 57
 abbrev pub zero : ℕ → Bool
 zero = between 48 48
 
+-- byte 0, of which a free slot is made
+abbrev pub null : ℕ → Bool
+null = between 0 0
+
 abbrev pub blank : ℕ → Bool
 blank = between 32 32
 

@@ -7,7 +7,7 @@ use Rattle.theory.specs.Outcome.{one-outcome}
 use Rattle.theory.specs.Every.{run, leading}
 use Rattle.fields.specs.Field.{filledTo, number}
 
--- is_digits, is_zeros, is_blanks, is_capitals, is_hex
+-- is_digits, is_zeros, is_nulls, is_blanks, is_capitals, is_hex
 pub run-one : (p : ℕ → Bool) (n : ℕ) (f : List ℕ) (r s : Bool) → r ≡ run p n f → s ≡ run p n f → r ≡ s
 run-one p n f r s = one-outcome
 

@@ -4,7 +4,7 @@ ghost use mathlib.Core.Path.{_≡_};
 ghost use Prim.Native.Nat.{_-_, _≤_};
 ghost use lib.ListN.{length};
 ghost use Rattle.theory.specs.Every.{all, run, leading};
-ghost use Rattle.fields.specs.Field.{between, digit, zero, blank, capital, hex, filledTo, number};
+ghost use Rattle.fields.specs.Field.{between, digit, zero, null, blank, capital, hex, filledTo, number};
 
 fn is_between(b: u8, lo: u8, hi: u8) -> bool
     ensures { λ r. ⌜ r ≡ between lo hi b ⌝ }
@@ -42,6 +42,12 @@ pub fn is_zeros(f: &[u8], n: usize) -> bool
     ensures { λ r. ⌜ r ≡ run zero n (now (f .entry)) ⌝ }
 {
     is_run(f, n, 48, 48)
+}
+
+pub fn is_nulls(f: &[u8], n: usize) -> bool
+    ensures { λ r. ⌜ r ≡ run null n (now (f .entry)) ⌝ }
+{
+    is_run(f, n, 0, 0)
 }
 
 pub fn is_blanks(f: &[u8], n: usize) -> bool
