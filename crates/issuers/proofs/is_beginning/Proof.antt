@@ -8,7 +8,7 @@ use Rattle.issuers.proofs.is_beginning.Statement.{statement}
 use Rattle.issuers.proofs.is_beginning.Tie as tie
 
 number-requires : tie.Need-number-requires
-number-requires c κs = field-short 15 16 15 _ _ (c .field .ensures) (omega arith)
+number-requires c κs = field-short _ _ 15 _ _ (c .field .ensures) (omega arith)
 
 returns : tie.Need-returns
 unfolding beginning

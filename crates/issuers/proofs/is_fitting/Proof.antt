@@ -7,7 +7,7 @@ use Rattle.issuers.proofs.is_fitting.Statement.{statement}
 use Rattle.issuers.proofs.is_fitting.Tie as tie
 
 number-requires : tie.Need-number-requires
-number-requires c κs = field-short 17 18 15 _ _ (c .field .ensures) (omega arith)
+number-requires c κs = field-short _ _ 15 _ _ (c .field .ensures) (omega arith)
 
 returns : tie.Need-returns
 returns c = rw (c .number .ensures, c .before .field .ensures)

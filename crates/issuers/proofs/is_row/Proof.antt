@@ -8,10 +8,10 @@ use Rattle.issuers.proofs.is_row.Statement.{statement}
 use Rattle.issuers.proofs.is_row.Tie as tie
 
 number-requires : tie.Need-number-requires
-number-requires c κs = field-short 15 16 15 _ _ (c .field2 .ensures) (omega arith)
+number-requires c κs = field-short _ _ 15 _ _ (c .field2 .ensures) (omega arith)
 
 number-requires-2 : tie.Need-number-requires-2
-number-requires-2 c κs = field-short 17 18 15 _ _ (c .field3 .ensures) (omega arith)
+number-requires-2 c κs = field-short _ _ 15 _ _ (c .field3 .ensures) (omega arith)
 
 returns : tie.Need-returns
 unfolding row filled

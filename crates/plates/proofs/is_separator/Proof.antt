@@ -8,10 +8,10 @@ use Rattle.plates.proofs.is_separator.Statement.{statement}
 use Rattle.plates.proofs.is_separator.Tie as tie
 
 number-requires : tie.Need-number-requires
-number-requires c κs = field-short 1 1 15 _ _ (c .field .ensures) (omega arith)
+number-requires c κs = field-short _ _ 15 _ _ (c .field .ensures) (omega arith)
 
 number-requires-2 : tie.Need-number-requires-2
-number-requires-2 c κs = field-short 2 2 15 _ _ (c .field2 .ensures) (omega arith)
+number-requires-2 c κs = field-short _ _ 15 _ _ (c .field2 .ensures) (omega arith)
 
 returns : tie.Need-returns
 unfolding separator

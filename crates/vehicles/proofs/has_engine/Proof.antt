@@ -7,7 +7,7 @@ use Rattle.vehicles.proofs.has_engine.Statement.{statement}
 use Rattle.vehicles.proofs.has_engine.Tie as tie
 
 number-requires : tie.Need-number-requires
-number-requires c κs = field-short 92 94 15 _ _ (c .field .ensures) (omega arith)
+number-requires c κs = field-short _ _ 15 _ _ (c .field .ensures) (omega arith)
 
 returns : tie.Need-returns
 unfolding engineHolds

@@ -7,7 +7,7 @@ use Rattle.vehicles.proofs.has_light_weight.Statement.{statement}
 use Rattle.vehicles.proofs.has_light_weight.Tie as tie
 
 number-requires : tie.Need-number-requires
-number-requires c κs = field-short 97 100 15 _ _ (c .field2 .ensures) (omega arith)
+number-requires c κs = field-short _ _ 15 _ _ (c .field2 .ensures) (omega arith)
 
 returns : tie.Need-returns
 unfolding weightHolds

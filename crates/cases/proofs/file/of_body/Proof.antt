@@ -6,7 +6,7 @@ use Rattle.cases.proofs.file.of_body.Statement.{statement}
 use Rattle.cases.proofs.file.of_body.Tie as tie
 
 number-requires : tie.Need-number-requires
-number-requires c κs = field-short 1 3 15 _ _ (c .field .ensures) (omega arith)
+number-requires c κs = field-short _ _ 15 _ _ (c .field .ensures) (omega arith)
 
 pub of-body-spec : {M : Type 1} → statement M
 of-body-spec =
