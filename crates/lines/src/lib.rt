@@ -1,7 +1,6 @@
 // The rules of a line (L1 to L10) and of a record. A line comes as a part of the lent body, or of the register; one of
 // any length is judged.
 ghost use mathlib.Core.Path.{_≡_};
-ghost use Rattle.theory.specs.First.{choose};
 ghost use Rattle.lines.specs.Rules.{stateless, L1, L2, L5, L6, L7, L8, L9, lineFault, recordHolds};
 
 fn holds_l6(l: &[u8]) -> bool
@@ -32,13 +31,6 @@ fn holds_l9(l: &[u8]) -> bool
         texts::field(l, columns::OBE_ID_FROM, columns::OBE_ID_TO),
         18,
     )
-}
-
-// The reason, where the rule is broken, else what the later rules say.
-fn first(broken: bool, reason: u64, later: u64) -> u64
-    ensures { λ r. ⌜ r ≡ choose broken reason later ⌝ }
-{
-    if broken { reason } else { later }
 }
 
 fn holds_l1(l: &[u8]) -> bool
@@ -83,17 +75,17 @@ pub fn line_fault(l: &[u8], sender: &[u8], rows: &[u8]) -> u64
     );
     let begins = issued.begins;
     let fits = issued.fits;
-    let v10 = first(!vehicles::holds_l10(l), 12, 0);
-    let v9 = first(!holds_l9(l), 5, v10);
-    let v8 = first(!holds_l8(l), 8, v9);
-    let v7 = first(!holds_l7(l), 9, v8);
-    let v0 = first(is_stateless(l), 6, v7);
-    let v6 = first(!holds_l6(l), 9, v0);
-    let v5 = first(!holds_l5(l), 2, v6);
-    let v4 = first(!fits, 3, v5);
-    let v3 = first(!begins, 4, v4);
-    let v2 = first(!holds_l2(l, sender), 4, v3);
-    first(!holds_l1(l), 3, v2)
+    let v10 = rules::first(!vehicles::holds_l10(l), 12, 0);
+    let v9 = rules::first(!holds_l9(l), 5, v10);
+    let v8 = rules::first(!holds_l8(l), 8, v9);
+    let v7 = rules::first(!holds_l7(l), 9, v8);
+    let v0 = rules::first(is_stateless(l), 6, v7);
+    let v6 = rules::first(!holds_l6(l), 9, v0);
+    let v5 = rules::first(!holds_l5(l), 2, v6);
+    let v4 = rules::first(!fits, 3, v5);
+    let v3 = rules::first(!begins, 4, v4);
+    let v2 = rules::first(!holds_l2(l, sender), 4, v3);
+    rules::first(!holds_l1(l), 3, v2)
 }
 
 // Six-digit actor, and L1, L5 to L10 hold.

@@ -16,3 +16,5 @@ pub mod Join
 pub mod Put
 pub mod Pad
 pub mod CloseUp
+pub mod Place
+pub mod Counting

@@ -1,7 +1,7 @@
 -- Assumes nothing.
 use Rattle.theory.specs.First.{choose}
-use Rattle.lines.proofs.first.Statement.{statement}
-use Rattle.lines.proofs.first.Tie as tie
+use Rattle.rules.proofs.first.Statement.{statement}
+use Rattle.rules.proofs.first.Tie as tie
 
 returns : tie.Need-returns
 unfolding choose
