@@ -1,11 +1,14 @@
 -- How many parts of a block pass a test, and the first of them, as a walk finds them. Assumes nothing.
 use mathlib.Core.Path.{_≡_, refl, sym, ap, _∙_}
-use mathlib.Core.Bool.{Bool, true, false}
+use mathlib.Core.Bool.{Bool, true, false, not, _||_}
 use mathlib.Core.List.{List, [], _∷_}
 use Prim.Native.Nat.{ℕ, suc, _+_, _≤_, _<_}
 use native.Mathlib.Omega.{arith}
+use lib.Dec.{eqb}
 use lib.ListN.{length, getD}
+use borrow.Author.Tests.{ne-eqb}
 use Rattle.theory.specs.Parts.{chop, partAt, partsFrom, parts-start, parts-step, parts-end}
+use Rattle.theory.specs.Walk.{some}
 use Rattle.theory.specs.Count.{bump, bump-add}
 use Rattle.theory.specs.Keep.{onto, sift, length-onto}
 use Rattle.theory.specs.Place.{placeOn, place}
@@ -41,4 +44,14 @@ sift-first q (x ∷ xs) = go (q x) (sift-first q xs)
   where
     go : (r : Bool) → getD (sift q xs) 0 [] ≡ getD xs (place q xs) [] → getD (onto r x (sift q xs)) 0 [] ≡ getD (x ∷ xs) (placeOn r (place q xs)) []
     go true ih = refl
+    go false ih = ih
+
+-- one passes where their number is not 0
+pub sift-some : (q : List ℕ → Bool) (xs : List (List ℕ)) → some q xs ≡ not (eqb (length (sift q xs)) 0)
+unfolding sift onto some
+sift-some q [] = refl
+sift-some q (x ∷ xs) = go (q x) (sift-some q xs)
+  where
+    go : (r : Bool) → some q xs ≡ not (eqb (length (sift q xs)) 0) → r || some q xs ≡ not (eqb (length (onto r x (sift q xs))) 0)
+    go true ih = rw (ne-eqb (suc (length (sift q xs))) 0 (λ e. omega arith))
     go false ih = ih

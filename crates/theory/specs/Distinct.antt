@@ -1,11 +1,13 @@
 -- No two of a list are the same; where a list is of records, it is their keys that are asked. Assumes nothing.
-use mathlib.Core.Path.{_≡_, refl, _∙_}
-use mathlib.Core.Bool.{Bool, true, false, not, _&&_}
+use mathlib.Core.Path.{_≡_, refl, sym, ap, _∙_}
+use mathlib.Core.Bool.{Bool, true, false, not, _&&_, true≢false}
 use mathlib.Core.List.{List, [], _∷_, _++_, map}
-use Prim.Native.Nat.{ℕ}
+use Prim.Native.Nat.{ℕ, zero, suc, _<_}
+use native.Mathlib.Omega.{arith}
+use lib.ListN.{length, getD}
 use borrow.Author.Tests.{not-true}
-use Rattle.theory.specs.Truth.{and-left, and-right, and-none, or-left, or-right, or-both}
-use Rattle.theory.specs.Same.{eqs, eqs-sym, mem, mem-append}
+use Rattle.theory.specs.Truth.{and-left, and-right, and-none, or-left, or-right, or-both, or-true}
+use Rattle.theory.specs.Same.{eqs, eqs-refl, eqs-sym, mem, mem-append}
 use Rattle.theory.specs.Each.{Each, none, more, each-map}
 use Rattle.theory.specs.Keep.{onto, sift, map-onto, mem-onto}
 
@@ -58,3 +60,19 @@ module _ {A : Type 0} (key : A → List ℕ) (p : A → Bool) where
   distinct-sift (x ∷ xs) h =
       rw (map-onto key (p x) x (sift p xs))
       (distinct-onto (p x) (key x) (map key (sift p xs)) (λ e. mem-sift (key x) xs (distinct-head (key x) (map key xs) h)) (distinct-sift xs (distinct-tail (key x) (map key xs) h)))
+
+-- ---- by their places
+
+mem-at : (xs : List (List ℕ)) (i : ℕ) → i < length xs → mem (getD xs i []) xs ≡ true
+unfolding mem
+mem-at [] i h = absurd (omega arith)
+mem-at (x ∷ xs) zero h = rw (eqs-refl x)
+mem-at (x ∷ xs) (suc i) h = or-true (eqs (getD xs i []) x) (mem (getD xs i []) xs) (mem-at xs i (omega arith))
+
+-- what is the same stands at one place
+pub distinct-places : (xs : List (List ℕ)) → distinct xs ≡ true → (i j : ℕ) → i < length xs → j < length xs → getD xs i [] ≡ getD xs j [] → i ≡ j
+distinct-places [] d i j h k e = absurd (omega arith)
+distinct-places (x ∷ xs) d zero zero h k e = refl
+distinct-places (x ∷ xs) d zero (suc j) h k e = absurd (true≢false (sym (mem-at xs j (omega arith)) ∙ rw (← e) (distinct-head x xs d)))
+distinct-places (x ∷ xs) d (suc i) zero h k e = absurd (true≢false (sym (mem-at xs i (omega arith)) ∙ rw e (distinct-head x xs d)))
+distinct-places (x ∷ xs) d (suc i) (suc j) h k e = ap suc (distinct-places xs (distinct-tail x xs d) i j (omega arith) (omega arith) e)

@@ -3,12 +3,24 @@ use mathlib.Core.Path.{_≡_, refl, sym, ap, _∙_}
 use mathlib.Core.Bool.{Bool, true, false, _&&_, _||_}
 use mathlib.Core.List.{List, [], _∷_, _++_}
 use Prim.Native.Nat.{ℕ, _+_, _≤_, _<_}
-use Rattle.theory.specs.Truth.{or-assoc, or-false}
+use Rattle.theory.specs.Truth.{and-left, and-right, or-assoc, or-false}
+use Rattle.theory.specs.Each.{Each, none, more}
 use Rattle.theory.specs.Parts.{chop, partAt, partsFrom, parts-start, parts-step, parts-end}
 
 unfoldable pub each : (List ℕ → Bool) → List (List ℕ) → Bool
 each q [] = true
 each q (x ∷ xs) = q x && each q xs
+
+-- the test, and what it says of each
+pub each-passes : (q : List ℕ → Bool) (xs : List (List ℕ)) → each q xs ≡ true → Each (λ x. q x ≡ true) xs
+unfolding each
+each-passes q [] h = none
+each-passes q (x ∷ xs) h = more (and-left (q x) (each q xs) h) (each-passes q xs (and-right (q x) (each q xs) h))
+
+pub passes-each : (q : List ℕ → Bool) {xs : List (List ℕ)} → Each (λ x. q x ≡ true) xs → each q xs ≡ true
+unfolding each
+passes-each q none = refl
+passes-each q (more h hs) = rw h (passes-each q hs)
 
 unfoldable pub some : (List ℕ → Bool) → List (List ℕ) → Bool
 some q [] = false

@@ -1,0 +1,87 @@
+-- T18: a lookup answers 0 exactly when the register and its key are in form and one record fits, and what it hands back
+-- is that record; in a register in order a record's bytes fix its place. Assumes nothing.
+use mathlib.Core.Path.{_≡_, refl, sym, ap, _∙_}
+use mathlib.Core.Bool.{Bool, true, false, not, cond, _&&_}
+use mathlib.Core.List.{List, [], _∷_, map}
+use Prim.Native.Nat.{ℕ, _≤_, _<_}
+use native.Mathlib.Omega.{arith}
+use lib.Dec.{eqb, leb, ltb}
+use lib.ListN.{length, getD, length-map, List·getD-map}
+use borrow.Author.Tests.{not-false, eq-eqb, eqb-false, ltb-true, ltb-false, le-ltb}
+use Rattle.theory.specs.First.{Rule, None, none, more, choose, first, first-clear, numbered}
+use Rattle.theory.specs.Truth.{and-left, and-right}
+use Rattle.theory.specs.Same.{eqs-true}
+use Rattle.theory.specs.Walk.{each, some}
+use Rattle.theory.specs.Distinct.{distinct, distinct-places}
+use Rattle.theory.specs.Place.{place, place-some, place-hit}
+use Rattle.times.specs.Time.{realTime}
+use Rattle.pans.specs.Pan.{pan}
+use Rattle.plates.specs.Plate.{plate, nationality}
+use Rattle.columns.specs.Columns.{panOf}
+use Rattle.texts.specs.Field.{field}
+use Rattle.register.specs.Register.{records, usedIn, inOrder}
+use Rattle.register.specs.Search.{holdsPan, placeOf}
+use Rattle.lookups.specs.Lookup.{unlessRefused, panRules, panNumber, panSlot, seenIn, plateRules, plateNumber}
+
+-- what the number 0 says of a lookup by PAN
+pub record PanFound (b key : List ℕ) : Type 0 where
+  pub ordered : inOrder b ≡ true
+  pub keyed : pan key ≡ true
+  pub held : some (holdsPan key) (records b) ≡ true
+
+module _ (b key : List ℕ) where
+  pub pan-found : panNumber b key ≡ 0 → PanFound b key
+  unfolding panNumber panRules numbered
+  pan-found h = go (first-clear (panRules b key) refl h)
+    where
+      go : None (panRules b key) → PanFound b key
+      go (more h₂₃ (more h₄₀ (more h₄₁ none))) =
+          record { ordered = not-false (inOrder b) h₂₃; keyed = not-false (pan key) h₄₀; held = not-false (some (holdsPan key) (records b)) h₄₁ }
+
+  pub found-pan : PanFound b key → panNumber b key ≡ 0
+  unfolding panNumber panRules first choose
+  found-pan f = rw (f .ordered, f .keyed, f .held)
+
+  -- the slot handed back has the PAN
+  pub pan-slot-holds : panNumber b key ≡ 0 → holdsPan key (panSlot b key) ≡ true
+  unfolding panSlot unlessRefused placeOf
+  pan-slot-holds h =
+      rw (eq-eqb (panNumber b key) 0 h)
+      (place-hit (holdsPan key) (records b)
+      (ltb-true (place (holdsPan key) (records b)) (usedIn b) (sym (place-some (holdsPan key) (records b)) ∙ pan-found h .held)))
+
+-- what the number 0 says of a lookup by plate: exactly one active record fits
+pub record PlateFound (b p n t : List ℕ) : Type 0 where
+  pub timed : realTime t ≡ true
+  pub ordered : inOrder b ≡ true
+  pub keyed : plate p && nationality n ≡ true
+  pub single : length (seenIn b p n t) ≡ 1
+
+module _ (b p n t : List ℕ) where
+  pub plate-found : plateNumber b p n t ≡ 0 → PlateFound b p n t
+  unfolding plateNumber plateRules numbered
+  plate-found h = go (first-clear (plateRules b p n t) refl h)
+    where
+      go : None (plateRules b p n t) → PlateFound b p n t
+      go (more h₂₂ (more h₂₃ (more h₄₀ (more h₄₁ (more h₄₂ none))))) =
+          let k : ℕ = length (seenIn b p n t) in
+          let z : k ≡ 0 → ⊥ = eqb-false k 0 h₄₁ in
+          let o : k ≤ 1 = ltb-false 1 k h₄₂ in
+          record {
+            timed = not-false (realTime t) h₂₂;
+            ordered = not-false (inOrder b) h₂₃;
+            keyed = not-false (plate p && nationality n) h₄₀;
+            single = omega arith;
+          }
+
+  pub found-plate : PlateFound b p n t → plateNumber b p n t ≡ 0
+  unfolding plateNumber plateRules first choose
+  found-plate f = rw (f .timed, f .ordered, f .keyed, f .single)
+
+-- in a register in order no two places have one PAN, so a record's bytes fix its place
+pub bytes-fix : (b : List ℕ) → inOrder b ≡ true → (i j : ℕ) → i < usedIn b → j < usedIn b → getD (records b) i [] ≡ getD (records b) j [] → i ≡ j
+unfolding inOrder field
+bytes-fix b h i j k l e =
+    let d : distinct (map panOf (records b)) ≡ true = and-right _ (distinct (map panOf (records b))) h in
+    let at : (m : ℕ) → getD (map panOf (records b)) m [] ≡ panOf (getD (records b) m []) = λ m. List·getD-map panOf (records b) m [] in
+    distinct-places (map panOf (records b)) d i j (rw (length-map (records b) panOf) k) (rw (length-map (records b) panOf) l) (at i ∙ ap panOf e ∙ sym (at j))

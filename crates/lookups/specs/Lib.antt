@@ -1,0 +1,3 @@
+pub mod Lookup
+pub mod Found
+pub mod Outcomes

@@ -1,0 +1,64 @@
+-- The lookups by PAN, and by plate, nationality and time: the number that each answers, and the slot. Assumes nothing.
+use Prim.Native.Nat.{ℕ}
+use mathlib.Core.Bool.{Bool, not, cond, _&&_}
+use mathlib.Core.List.{List, [], _∷_}
+use lib.Dec.{eqb, ltb}
+use lib.ListN.{length, getD}
+use Rattle.theory.specs.First.{Rule, _if_, first}
+use Rattle.theory.specs.Same.{eqs}
+use Rattle.theory.specs.Walk.{some}
+use Rattle.theory.specs.Keep.{sift}
+use Rattle.times.specs.Time.{realTime}
+use Rattle.pans.specs.Pan.{pan}
+use Rattle.plates.specs.Plate.{plate, nationality}
+use Rattle.columns.specs.Columns.{plateOf, nationalityOf}
+use Rattle.lines.specs.End.{active}
+use Rattle.register.specs.Register.{records, inOrder}
+use Rattle.register.specs.Search.{holdsPan, placeOf}
+
+-- a refusal answers with an empty part
+unfoldable pub unlessRefused : ℕ → List ℕ → List ℕ
+unlessRefused number slot = cond (eqb number 0) slot []
+
+-- ---- by PAN (19 bytes as in L1)
+
+-- 23, 40 bad key, 41 none
+unfoldable pub panRules : List ℕ → List ℕ → List Rule
+panRules b key =
+    (23 if not (inOrder b))
+    ∷ (40 if not (pan key))
+    ∷ (41 if not (some (holdsPan key) (records b)))
+    ∷ []
+
+unfoldable pub panNumber : List ℕ → List ℕ → ℕ
+panNumber b key = first (panRules b key)
+
+-- the slot itself
+unfoldable pub panSlot : List ℕ → List ℕ → List ℕ
+panSlot b key = unlessRefused (panNumber b key) (getD (records b) (placeOf key (records b)) [])
+
+-- ---- by plate, nationality and time
+
+-- a record with this plate and nationality that is active at t
+unfoldable pub seen : List ℕ → List ℕ → List ℕ → List ℕ → Bool
+seen p n t r = eqs (plateOf r) p && eqs (nationalityOf r) n && active t r
+
+unfoldable pub seenIn : List ℕ → List ℕ → List ℕ → List ℕ → List (List ℕ)
+seenIn b p n t = sift (seen p n t) (records b)
+
+-- 22, 23, 40 (L6, L7), 41 no active record, 42 more than one
+unfoldable pub plateRules : List ℕ → List ℕ → List ℕ → List ℕ → List Rule
+plateRules b p n t =
+    (22 if not (realTime t))
+    ∷ (23 if not (inOrder b))
+    ∷ (40 if not (plate p && nationality n))
+    ∷ (41 if eqb (length (seenIn b p n t)) 0)
+    ∷ (42 if ltb 1 (length (seenIn b p n t)))
+    ∷ []
+
+unfoldable pub plateNumber : List ℕ → List ℕ → List ℕ → List ℕ → ℕ
+plateNumber b p n t = first (plateRules b p n t)
+
+-- the slot itself: the one that is seen
+unfoldable pub plateSlot : List ℕ → List ℕ → List ℕ → List ℕ → List ℕ
+plateSlot b p n t = unlessRefused (plateNumber b p n t) (getD (seenIn b p n t) 0 [])

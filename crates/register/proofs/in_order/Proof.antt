@@ -1,0 +1,43 @@
+-- Assumes nothing.
+use borrow.Author.Needs.{needs}
+use mathlib.Core.Path.{sym}
+use borrow.Author.Tests.{not-true, not-false}
+use Rattle.register.proofs.Laws.{unsized, used-within, used-fits, rest-fits, order-is}
+use Rattle.register.proofs.in_order.Statement.{statement}
+use Rattle.register.proofs.in_order.Tie as tie
+
+returns : tie.Need-returns
+returns c = sym (unsized _ (not-true _ (c .if1 .taken)))
+
+each-used-requires : tie.Need-each-used-requires
+each-used-requires c κs = used-fits _ _ (c .used-slots .ensures)
+
+slots-from-requires : tie.Need-slots-from-requires
+slots-from-requires c κs = used-fits _ _ (c .before .used-slots .ensures)
+
+sub-each-free : tie.Need-sub-each-free
+sub-each-free c = used-within _ _ (c .before .before .used-slots .ensures)
+
+each-free-requires : tie.Need-each-free-requires
+each-free-requires c κs = rest-fits _ _ (c .before .before .used-slots .ensures) _ (c .slots-from .ensures)
+
+all-different-requires : tie.Need-all-different-requires
+all-different-requires c κs = used-fits _ _ (c .before .before .before .used-slots .ensures)
+
+returns-2 : tie.Need-returns-2
+returns-2 c =
+    let x = c .before .before .before .before in
+    order-is _ _ (x .used-slots .ensures) _ (c .before .before .slots-from .ensures) (not-false _ (x .before .if1 .left)) _ _ _ (c .before .before .before .each-used .ensures) (c .before .each-free .ensures) (c .all-different .ensures)
+
+pub in-order-spec : {M : Type 1} → statement M
+in-order-spec =
+    tie.close
+    (tie.spec
+    returns
+    (λ c κs. search needs)
+    each-used-requires
+    slots-from-requires
+    sub-each-free
+    each-free-requires
+    all-different-requires
+    returns-2)

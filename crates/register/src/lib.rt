@@ -1,0 +1,186 @@
+// The register: slots of 128 bytes, the used ones first, each a record. What is looked for in them, and whether they
+// are in order (stop 23).
+ghost use mathlib.Core.Path.{_≡_};
+ghost use mathlib.Core.List.{map};
+ghost use Prim.Native.Nat.{_*_, _≤_};
+ghost use lib.ListN.{length, drop};
+ghost use Rattle.theory.specs.Parts.{chop, partsFrom};
+ghost use Rattle.theory.specs.Walk.{each, some};
+ghost use Rattle.theory.specs.Distinct.{distinct};
+ghost use Rattle.columns.specs.Columns.{panOf};
+ghost use Rattle.register.specs.Register.{marked, usedForm, freeForm, usedIn, inOrder};
+ghost use Rattle.register.specs.Search.{holdsPan, placeOf, of, holdsForeign, heldByAnother, countOf};
+
+const SLOT: usize = 128;
+
+const SLOTS: usize = 8192;
+
+fn is_marked(s: &[u8]) -> bool
+    ensures { λ r. ⌜ r ≡ marked (now (s .entry)) ⌝ }
+{
+    texts::has_text(s, 1, 1, b"1")
+}
+
+// How many slots are used: those in front of the first without `1`.
+pub fn used_slots(b: &[u8]) -> usize
+    ensures { λ r. ⌜ r ≡ usedIn (now (b .entry)) ⌝ }
+{
+    let n = b.len() / SLOT;
+    let mut i: usize = 0;
+    while i < n {
+        if !is_marked(texts::part(b, SLOT, i)) {
+            return i;
+        }
+        i += 1;
+    }
+    i
+}
+
+fn holds_pan(r: &[u8], pan: &[u8]) -> bool
+    ensures { λ t. ⌜ t ≡ holdsPan (now (pan .entry)) (now (r .entry)) ⌝ }
+{
+    texts::has_text(r, columns::PAN_FROM, columns::PAN_TO, pan)
+}
+
+// The place of the first of the n records that has this PAN, or n.
+pub fn find(b: &[u8], n: usize, pan: &[u8]) -> usize
+    requires { ⌜ n * 128 ≤ length (now b) ⌝ }
+    ensures { λ r. ⌜ r ≡ placeOf (now (pan .entry)) (chop 128 n (now (b .entry))) ⌝ }
+{
+    let mut i: usize = 0;
+    while i < n {
+        if holds_pan(texts::part(b, SLOT, i), pan) {
+            return i;
+        }
+        i += 1;
+    }
+    i
+}
+
+fn is_of(r: &[u8], who: &[u8]) -> bool
+    ensures { λ t. ⌜ t ≡ of (now (who .entry)) (now (r .entry)) ⌝ }
+{
+    texts::has_text(r, columns::ACTOR_FROM, columns::ACTOR_TO, who)
+}
+
+fn holds_foreign(r: &[u8], pan: &[u8], who: &[u8]) -> bool
+    ensures { λ t. ⌜ t ≡ holdsForeign (now (pan .entry)) (now (who .entry)) (now (r .entry)) ⌝ }
+{
+    holds_pan(r, pan) & !is_of(r, who)
+}
+
+// Has one of the n records this PAN under another actor than `who` (L11).
+pub fn is_held_by_another(b: &[u8], n: usize, pan: &[u8], who: &[u8]) -> bool
+    requires { ⌜ n * 128 ≤ length (now b) ⌝ }
+    ensures { λ r. ⌜ r ≡ heldByAnother (now (pan .entry)) (now (who .entry)) (chop 128 n (now (b .entry))) ⌝ }
+{
+    let mut i: usize = 0;
+    while i < n {
+        if holds_foreign(texts::part(b, SLOT, i), pan, who) {
+            return true;
+        }
+        i += 1;
+    }
+    false
+}
+
+// How many of the n records are this actor's.
+pub fn count_of(b: &[u8], n: usize, who: &[u8]) -> usize
+    requires { ⌜ n * 128 ≤ length (now b) ⌝ }
+    ensures { λ r. ⌜ r ≡ countOf (now (who .entry)) (chop 128 n (now (b .entry))) ⌝ }
+{
+    let mut k: usize = 0;
+    let mut i: usize = 0;
+    while i < n {
+        if is_of(texts::part(b, SLOT, i), who) {
+            k += 1;
+        }
+        i += 1;
+    }
+    k
+}
+
+fn is_used(s: &[u8]) -> bool
+    ensures { λ r. ⌜ r ≡ usedForm (now (s .entry)) ⌝ }
+{
+    is_marked(s) & lines::is_record(s) & texts::has_text(s, SLOT, SLOT, b"\n")
+}
+
+fn each_used(b: &[u8], n: usize) -> bool
+    requires { ⌜ n * 128 ≤ length (now b) ⌝ }
+    ensures { λ r. ⌜ r ≡ each usedForm (chop 128 n (now (b .entry))) ⌝ }
+{
+    let mut i: usize = 0;
+    while i < n {
+        if !is_used(texts::part(b, SLOT, i)) {
+            return false;
+        }
+        i += 1;
+    }
+    true
+}
+
+fn is_free(s: &[u8]) -> bool
+    ensures { λ r. ⌜ r ≡ freeForm (now (s .entry)) ⌝ }
+{
+    fields::is_nulls(s, SLOT)
+}
+
+fn each_free(b: &[u8], n: usize) -> bool
+    requires { ⌜ n * 128 ≤ length (now b) ⌝ }
+    ensures { λ r. ⌜ r ≡ each freeForm (chop 128 n (now (b .entry))) ⌝ }
+{
+    let mut i: usize = 0;
+    while i < n {
+        if !is_free(texts::part(b, SLOT, i)) {
+            return false;
+        }
+        i += 1;
+    }
+    true
+}
+
+// The slots from place `from` on.
+fn slots_from<'a>(b: &'a [u8], from: usize) -> &'a [u8]
+    requires { ⌜ from * 128 ≤ length (now b) ⌝ }
+    ensures { λ r. ⌜ now r ≡ drop (from * 128) (now (b .entry)) ⌝ }
+{
+    let at = from * SLOT;
+    &b[at..]
+}
+
+// Has one of the slots from place `from` to place n this PAN.
+fn is_behind(b: &[u8], from: usize, n: usize, pan: &[u8]) -> bool
+    requires { ⌜ (from ≤ n) × (n * 128 ≤ length (now b)) ⌝ }
+    ensures { λ r. ⌜ r ≡ some (holdsPan (now (pan .entry))) (partsFrom 128 n from (now (b .entry))) ⌝ }
+{
+    let left = n - from;
+    find(slots_from(b, from), left, pan) < left
+}
+
+fn all_different(b: &[u8], n: usize) -> bool
+    requires { ⌜ n * 128 ≤ length (now b) ⌝ }
+    ensures { λ r. ⌜ r ≡ distinct (map panOf (chop 128 n (now (b .entry)))) ⌝ }
+{
+    let mut i: usize = 0;
+    while i < n {
+        let pan = texts::field(texts::part(b, SLOT, i), columns::PAN_FROM, columns::PAN_TO);
+        if is_behind(b, i + 1, n, pan) {
+            return false;
+        }
+        i += 1;
+    }
+    true
+}
+
+// 0 to 8,192 whole slots, the used ones first and in form, all their PANs different, and zeros behind them.
+pub fn in_order(b: &[u8]) -> bool
+    ensures { λ r. ⌜ r ≡ inOrder (now (b .entry)) ⌝ }
+{
+    let n = b.len() / SLOT;
+    if !((b.len() % SLOT == 0) & (n <= SLOTS)) {
+        return false;
+    }
+    let used = used_slots(b);
+    each_used(b, used) & each_free(slots_from(b, used), n - used) & all_different(b, used)
+}
