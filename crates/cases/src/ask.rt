@@ -7,17 +7,17 @@ pub fn told(holds: bool) -> u64 {
     if holds { YES } else { NO }
 }
 
-fn of_time(tag: &[u8], f: &[u8]) -> u64 {
+fn of_time(tag: &[u8], f: &[u8], room: &[u8]) -> u64 {
     if texts::same(tag, b"time    ") {
         return told(times::is_real_time(f));
     }
     if texts::same(tag, b"date    ") {
         return told(times::is_real_date(f));
     }
-    crate::vary::of_line(tag, f)
+    crate::vary::of_line(tag, f, room)
 }
 
-fn of_plate(tag: &[u8], f: &[u8]) -> u64 {
+fn of_plate(tag: &[u8], f: &[u8], room: &[u8]) -> u64 {
     if texts::same(tag, b"plate   ") {
         return told(plates::is_plate(f));
     }
@@ -28,10 +28,10 @@ fn of_plate(tag: &[u8], f: &[u8]) -> u64 {
         let k = plates::plate_characters(texts::field(f, 1, 10));
         return told(plates::is_separator(texts::field(f, 11, 65536), k));
     }
-    of_time(tag, f)
+    of_time(tag, f, room)
 }
 
-pub fn answer(tag: &[u8], f: &[u8]) -> u64 {
+pub fn answer(tag: &[u8], f: &[u8], room: &[u8]) -> u64 {
     if texts::same(tag, b"luhn    ") {
         return told(pans::is_luhn(f));
     }
@@ -41,5 +41,5 @@ pub fn answer(tag: &[u8], f: &[u8]) -> u64 {
     if texts::same(tag, b"rows    ") {
         return told(issuers::are_rows(f));
     }
-    of_plate(tag, f)
+    of_plate(tag, f, room)
 }

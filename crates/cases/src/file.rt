@@ -51,7 +51,7 @@ fn has_length(long: &[u8], n: usize) -> bool {
     hgv::has_length(&long[..n])
 }
 
-fn of_body(tag: &[u8], file: &[u8], f: &[u8]) -> u64 {
+fn of_body(tag: &[u8], file: &[u8], f: &[u8], room: &[u8]) -> u64 {
     if texts::same(tag, b"footer  ") {
         return told(hgv::has_footer(file));
     }
@@ -60,12 +60,12 @@ fn of_body(tag: &[u8], file: &[u8], f: &[u8]) -> u64 {
     }
     if texts::same(tag, b"length  ") {
         let n = fields::number(texts::field(f, 1, 3)) as usize;
-        return told(has_length(&[0u8; 999], n));
+        return told(has_length(room, n));
     }
-    255
+    crate::slots::of_slots(tag, f, room)
 }
 
-fn of_header(tag: &[u8], file: &[u8], f: &[u8]) -> u64 {
+fn of_header(tag: &[u8], file: &[u8], f: &[u8], room: &[u8]) -> u64 {
     if texts::same(tag, b"header  ") {
         return told(header::has_header(file));
     }
@@ -78,11 +78,11 @@ fn of_header(tag: &[u8], file: &[u8], f: &[u8]) -> u64 {
     if texts::same(tag, b"count   ") {
         return told(header::has_count(file));
     }
-    of_body(tag, file, f)
+    of_body(tag, file, f, room)
 }
 
-pub fn of_file(tag: &[u8], f: &[u8]) -> u64 {
+pub fn of_file(tag: &[u8], f: &[u8], room: &[u8]) -> u64 {
     let mut file = [0u8; 320];
     vary_file(&mut file, f);
-    of_header(tag, &file, f)
+    of_header(tag, &file, f, room)
 }

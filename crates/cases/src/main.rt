@@ -7,11 +7,15 @@ ghost use lib.ListN.{length};
 
 mod ask;
 mod file;
+mod slots;
 mod vary;
 
 const NO: u64 = 100;
 
 const YES: u64 = 101;
+
+// A slot that is found answers with this and its place.
+const FOUND: u64 = 1000;
 
 fn tell(answer: u64) {
     io::write_all(STDOUT_FILENO, b" -> ");
@@ -23,14 +27,19 @@ fn tell(answer: u64) {
         io::write_all(STDOUT_FILENO, b"yes");
         return;
     }
+    if FOUND <= answer {
+        io::write_all(STDOUT_FILENO, b"0 at ");
+        io::print_decimal(STDOUT_FILENO, answer - FOUND);
+        return;
+    }
     io::print_decimal(STDOUT_FILENO, answer);
 }
 
-fn case(line: &[u8]) {
+fn case(line: &[u8], room: &[u8]) {
     io::write_all(STDOUT_FILENO, line);
     let tag = texts::field(line, 1, 8);
     if !texts::same(texts::field(line, 1, 1), b"#") {
-        tell(ask::answer(tag, texts::field(line, 10, 65536)));
+        tell(ask::answer(tag, texts::field(line, 10, 65536), room));
     }
     io::write_all(STDOUT_FILENO, b"\n");
 }
@@ -50,17 +59,27 @@ fn line_end(text: &[u8], from: usize) -> usize
     i
 }
 
-fn each_case(text: &[u8]) {
+fn each_case(text: &[u8], room: &[u8]) {
     let mut i: usize = 0;
     while i < text.len() {
         let end = line_end(text, i);
-        case(&text[i..end]);
+        case(&text[i..end], room);
         i = end + 1;
     }
 }
 
-fn main() {
+fn run(room: &[u8]) {
     let mut text = io::large_buffer();
     let n = io::read_full(STDIN_FILENO, &mut text);
-    each_case(&text[..n]);
+    each_case(&text[..n], room);
+}
+
+// One slot more than a register may have.
+fn with_room(room: &mut [u8; 1048704]) {
+    run(room);
+}
+
+fn main() {
+    let mut room = [0u8; 1048704];
+    with_room(&mut room);
 }

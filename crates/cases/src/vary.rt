@@ -38,7 +38,7 @@ fn vary(line: &mut [u8], f: &[u8]) {
     );
 }
 
-pub fn of_line(tag: &[u8], f: &[u8]) -> u64 {
+pub fn of_line(tag: &[u8], f: &[u8], room: &[u8]) -> u64 {
     let mut line = [0u8; 128];
     if texts::same(tag, b"under   ") {
         vary(&mut line, b"");
@@ -51,5 +51,5 @@ pub fn of_line(tag: &[u8], f: &[u8]) -> u64 {
     if texts::same(tag, b"record  ") {
         return told(lines::is_record(&line));
     }
-    crate::file::of_file(tag, f)
+    crate::file::of_file(tag, f, room)
 }

@@ -9,10 +9,9 @@ use lib.Dec.{eqb, leb, ltb}
 use lib.ListN.{length, getD, length-map, List·getD-map}
 use borrow.Author.Tests.{not-false, eq-eqb, eqb-false, ltb-true, ltb-false, le-ltb}
 use Rattle.theory.specs.First.{Rule, None, none, more, choose, first, first-clear, numbered}
-use Rattle.theory.specs.Truth.{and-left, and-right}
 use Rattle.theory.specs.Same.{eqs-true}
 use Rattle.theory.specs.Walk.{each, some}
-use Rattle.theory.specs.Distinct.{distinct, distinct-places}
+use Rattle.theory.specs.Distinct.{distinct-places}
 use Rattle.theory.specs.Place.{place, place-some, place-hit}
 use Rattle.times.specs.Time.{realTime}
 use Rattle.pans.specs.Pan.{pan}
@@ -20,6 +19,7 @@ use Rattle.plates.specs.Plate.{plate, nationality}
 use Rattle.columns.specs.Columns.{panOf}
 use Rattle.texts.specs.Field.{field}
 use Rattle.register.specs.Register.{records, usedIn, inOrder}
+use Rattle.register.specs.Laws.{ordered}
 use Rattle.register.specs.Search.{holdsPan, placeOf}
 use Rattle.lookups.specs.Lookup.{unlessRefused, panRules, panNumber, panSlot, seenIn, plateRules, plateNumber}
 
@@ -80,8 +80,7 @@ module _ (b p n t : List ℕ) where
 
 -- in a register in order no two places have one PAN, so a record's bytes fix its place
 pub bytes-fix : (b : List ℕ) → inOrder b ≡ true → (i j : ℕ) → i < usedIn b → j < usedIn b → getD (records b) i [] ≡ getD (records b) j [] → i ≡ j
-unfolding inOrder field
+unfolding field
 bytes-fix b h i j k l e =
-    let d : distinct (map panOf (records b)) ≡ true = and-right _ (distinct (map panOf (records b))) h in
     let at : (m : ℕ) → getD (map panOf (records b)) m [] ≡ panOf (getD (records b) m []) = λ m. List·getD-map panOf (records b) m [] in
-    distinct-places (map panOf (records b)) d i j (rw (length-map (records b) panOf) k) (rw (length-map (records b) panOf) l) (at i ∙ ap panOf e ∙ sym (at j))
+    distinct-places (map panOf (records b)) (ordered b h .apart) i j (rw (length-map (records b) panOf) k) (rw (length-map (records b) panOf) l) (at i ∙ ap panOf e ∙ sym (at j))

@@ -4,11 +4,11 @@ use mathlib.Core.Bool.{Bool, true, false, not, _&&_}
 use mathlib.Core.List.{List, [], _∷_, map}
 use Prim.Native.Nat.{ℕ, _+_, _-_, _*_, _%_, _≤_, _<_}
 use native.Mathlib.Omega.{arith}
-use native.Mathlib.Nat.{mul-le-mul-right, div-mul-le-self}
+use native.Mathlib.Nat.{div-mul-le-self}
 use lib.Dec.{eqb, leb, ltb}
 use lib.ListN.{length, drop, length-drop}
 use Rattle.theory.specs.Same.{eqs, eqs-sym, mem}
-use Rattle.theory.specs.Count.{bump, count, Counted, counted-end}
+use Rattle.theory.specs.Count.{count, Counted, counted-end}
 use Rattle.theory.specs.Parts.{chop, partAt, partsFrom, parts-start, parts-step, parts-end, length-chop}
 use Rattle.theory.specs.Place.{place-some, drop-chop}
 use Rattle.theory.specs.Walk.{each, some}
@@ -88,22 +88,14 @@ module _ (b : List ℕ) where
   unfolding inOrder
   unsized h = rw h
 
-  -- u slots are used
-  module _ (u : ℕ) (m : u ≡ usedIn b) where
-    pub used-within : u ≤ slotsIn b
-    used-within = omega (arith, used-most b)
+  -- u slots are used, and `rest` is what is behind them
+  module _ (u : ℕ) (m : u ≡ usedIn b) (rest : List ℕ) (p : rest ≡ drop (u * slotLength) b) where
+    pub rest-fits : (slotsIn b - u) * slotLength ≤ length rest
+    rest-fits = rw p (simp length-drop (omega (arith, used-most b, div-mul-le-self (length b) slotLength)))
 
-    pub used-fits : u * slotLength ≤ length b
-    used-fits = omega (arith, mul-le-mul-right slotLength used-within, div-mul-le-self (length b) slotLength)
-
-    -- `rest` is what is behind them
-    module _ (rest : List ℕ) (p : rest ≡ drop (u * slotLength) b) where
-      pub rest-fits : (slotsIn b - u) * slotLength ≤ length rest
-      rest-fits = rw p (simp length-drop (omega (arith, used-within, div-mul-le-self (length b) slotLength)))
-
-      pub order-is : sizes ≡ true → (s f d : Bool) → s ≡ each usedForm (chop slotLength u b) → f ≡ each freeForm (chop slotLength (slotsIn b - u) rest)
-          → d ≡ distinct (map panOf (chop slotLength u b)) → (s && f) && d ≡ inOrder b
-      unfolding inOrder slotsOf partsFrom
-      order-is t s f d e₁ e₂ e₃ =
-          let r : records b ≡ chop slotLength u b = records-chop b ∙ rw m in
-          rw (r, length-chop slotLength u b, drop-chop slotLength (slotsIn b) u b used-within, t, e₁, e₂, e₃, p)
+    pub order-is : sizes ≡ true → (s f d : Bool) → s ≡ each usedForm (chop slotLength u b) → f ≡ each freeForm (chop slotLength (slotsIn b - u) rest)
+        → d ≡ distinct (map panOf (chop slotLength u b)) → (s && f) && d ≡ inOrder b
+    unfolding inOrder slotsOf partsFrom
+    order-is t s f d e₁ e₂ e₃ =
+        let r : records b ≡ chop slotLength u b = records-chop b ∙ rw m in
+        rw (r, length-chop slotLength u b, drop-chop slotLength (slotsIn b) u b (omega (arith, used-most b)), t, e₁, e₂, e₃, p)

@@ -1,3 +1,4 @@
 pub mod Register
 pub mod Search
 pub mod Laws
+pub mod Outcomes

@@ -2,7 +2,8 @@
 use borrow.Author.Needs.{needs}
 use mathlib.Core.Path.{sym}
 use borrow.Author.Tests.{not-true, not-false}
-use Rattle.register.proofs.Laws.{unsized, used-within, used-fits, rest-fits, order-is}
+use Rattle.register.proofs.Laws.{unsized, rest-fits, order-is}
+use Rattle.register.specs.Laws.{used-most, used-fits}
 use Rattle.register.proofs.in_order.Statement.{statement}
 use Rattle.register.proofs.in_order.Tie as tie
 
@@ -10,19 +11,19 @@ returns : tie.Need-returns
 returns c = sym (unsized _ (not-true _ (c .if1 .taken)))
 
 each-used-requires : tie.Need-each-used-requires
-each-used-requires c κs = used-fits _ _ (c .used-slots .ensures)
+each-used-requires c κs = rw (c .used-slots .ensures) (used-fits _)
 
 slots-from-requires : tie.Need-slots-from-requires
-slots-from-requires c κs = used-fits _ _ (c .before .used-slots .ensures)
+slots-from-requires c κs = rw (c .before .used-slots .ensures) (used-fits _)
 
 sub-each-free : tie.Need-sub-each-free
-sub-each-free c = used-within _ _ (c .before .before .used-slots .ensures)
+sub-each-free c = rw (c .before .before .used-slots .ensures) (used-most _)
 
 each-free-requires : tie.Need-each-free-requires
 each-free-requires c κs = rest-fits _ _ (c .before .before .used-slots .ensures) _ (c .slots-from .ensures)
 
 all-different-requires : tie.Need-all-different-requires
-all-different-requires c κs = used-fits _ _ (c .before .before .before .used-slots .ensures)
+all-different-requires c κs = rw (c .before .before .before .used-slots .ensures) (used-fits _)
 
 returns-2 : tie.Need-returns-2
 returns-2 c =
