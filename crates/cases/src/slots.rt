@@ -51,14 +51,20 @@ fn fill_at(register: &mut [u8], i: usize, letter: u8)
     fill(&mut register[at..end], letter);
 }
 
+// Free slots behind the last letter.
+fn letter_at(f: &[u8], i: usize) -> u8 {
+    if i < f.len() {
+        return f[i];
+    }
+    b'F'
+}
+
 // The letters of f, a slot for each.
 fn fill_all(register: &mut [u8], f: &[u8]) {
     let n = register.len() / SLOT;
     let mut i: usize = 0;
     while i < n {
-        if i < f.len() {
-            fill_at(register, i, f[i]);
-        }
+        fill_at(register, i, letter_at(f, i));
         i += 1;
     }
 }
@@ -78,7 +84,10 @@ fn place_of(register: &[u8], part: &[u8]) -> u64 {
 
 fn found(register: &[u8], part: &[u8], number: u64) -> u64 {
     let place = place_of(register, part);
-    if (number != 0) | (FOUND < place) {
+    if number != 0 {
+        return number;
+    }
+    if FOUND < place {
         return number;
     }
     FOUND + place

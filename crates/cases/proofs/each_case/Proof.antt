@@ -6,10 +6,10 @@ use Rattle.cases.proofs.each_case.Statement.{statement}
 use Rattle.cases.proofs.each_case.Tie as tie
 
 abbrev Inv-loop : tie.InvT-loop
-Inv-loop text i₀ i = i ≤ length text + 1
+Inv-loop text room i₀ i = i ≤ length text + 1
 
 abbrev μ-loop : tie.MeasureT-loop
-μ-loop text i₀ i = length text + 1 - i
+μ-loop text room i₀ i = length text + 1 - i
 
 pub each-case-spec : {M : Type 1} → statement M
 each-case-spec =

@@ -21,10 +21,16 @@ part-requires : tie.Need-part-requires Inv-loop μ-loop
 part-requires c κs = part-fits 128 (c .before .before .before .args .n) (c .before .loop .i) _ (c .before .before .before .pre) (c .loop-test .taken)
 
 returns : tie.Need-returns Inv-loop μ-loop
-returns c = sym (differ-off _ _ _ (c .before .before .before .before .before .loop .inv .1) (c .before .before .before .before .loop-test .taken) _ (c .before .before .before .part .ensures) _ (c .before .before .field .ensures) _ (c .before .is-behind .ensures) (c .if1 .taken))
+returns c =
+    let y = c .before .before in
+    let x = y .before .before in
+    sym (differ-off _ _ _ (x .before .loop .inv .1) (x .loop-test .taken) _ (y .before .part .ensures) _ (y .field .ensures) _ (c .before .is-behind .ensures) (c .if1 .taken))
 
 loop-again : tie.Need-loop-again Inv-loop μ-loop
-loop-again c = (omega arith, differ-on _ _ _ (c .before .before .before .before .before .loop .inv .1) (c .before .before .before .before .loop-test .taken) _ (c .before .before .before .part .ensures) _ (c .before .before .field .ensures) _ (c .before .is-behind .ensures) (c .if1 .left))
+loop-again c =
+    let y = c .before .before in
+    let x = y .before .before in
+    (omega arith, differ-on _ _ _ (x .before .loop .inv .1) (x .loop-test .taken) _ (y .before .part .ensures) _ (y .field .ensures) _ (c .before .is-behind .ensures) (c .if1 .left))
 
 returns-2 : tie.Need-returns-2 Inv-loop μ-loop
 returns-2 c = sym (differ-end _ _ _ (c .before .loop .inv .1) (c .loop-test .left))

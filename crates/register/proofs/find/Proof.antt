@@ -22,10 +22,14 @@ part-requires c κs = part-fits 128 (c .before .before .before .before .args .n)
 
 returns : tie.Need-returns Inv-loop μ-loop
 unfolding placeOf
-returns c = placing-off _ _ _ _ _ (c .before .before .before .before .loop .inv .1) (c .before .before .before .loop-test .taken) _ (c .before .before .part .ensures) _ (c .before .holds-pan .ensures) (c .if1 .taken)
+returns c =
+    let x = c .before .before .before in
+    placing-off _ _ _ _ _ (x .before .loop .inv .1) (x .loop-test .taken) _ (c .before .before .part .ensures) _ (c .before .holds-pan .ensures) (c .if1 .taken)
 
 loop-again : tie.Need-loop-again Inv-loop μ-loop
-loop-again c = (omega arith, placing-on _ _ _ _ _ (c .before .before .before .before .loop .inv .1) (c .before .before .before .loop-test .taken) _ (c .before .before .part .ensures) _ (c .before .holds-pan .ensures) (c .if1 .left))
+loop-again c =
+    let x = c .before .before .before in
+    (omega arith, placing-on _ _ _ _ _ (x .before .loop .inv .1) (x .loop-test .taken) _ (c .before .before .part .ensures) _ (c .before .holds-pan .ensures) (c .if1 .left))
 
 returns-2 : tie.Need-returns-2 Inv-loop μ-loop
 unfolding placeOf

@@ -28,7 +28,8 @@ all-different-requires c κs = rw (c .before .before .before .used-slots .ensure
 returns-2 : tie.Need-returns-2
 returns-2 c =
     let x = c .before .before .before .before in
-    order-is _ _ (x .used-slots .ensures) _ (c .before .before .slots-from .ensures) (not-false _ (x .before .if1 .left)) _ _ _ (c .before .before .before .each-used .ensures) (c .before .each-free .ensures) (c .all-different .ensures)
+    let u = c .before .before .before .each-used .ensures in
+    order-is _ _ (x .used-slots .ensures) _ (c .before .before .slots-from .ensures) (not-false _ (x .before .if1 .left)) _ _ _ u (c .before .each-free .ensures) (c .all-different .ensures)
 
 pub in-order-spec : {M : Type 1} → statement M
 in-order-spec =

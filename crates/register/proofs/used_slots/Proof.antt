@@ -24,10 +24,14 @@ part-requires : tie.Need-part-requires Inv-loop μ-loop
 part-requires c κs = whole-fits 128 _ _ (c .loop-test .taken)
 
 returns : tie.Need-returns Inv-loop μ-loop
-returns c = placing-off _ _ _ _ _ (c .before .before .before .before .loop .inv .1) (c .before .before .before .loop-test .taken) _ (c .before .before .part .ensures) _ (ap not (c .before .is-marked .ensures)) (c .if1 .taken) ∙ sym (used-place _)
+returns c =
+    let x = c .before .before .before in
+    placing-off _ _ _ _ _ (x .before .loop .inv .1) (x .loop-test .taken) _ (c .before .before .part .ensures) _ (ap not (c .before .is-marked .ensures)) (c .if1 .taken) ∙ sym (used-place _)
 
 loop-again : tie.Need-loop-again Inv-loop μ-loop
-loop-again c = (omega arith, placing-on _ _ _ _ _ (c .before .before .before .before .loop .inv .1) (c .before .before .before .loop-test .taken) _ (c .before .before .part .ensures) _ (ap not (c .before .is-marked .ensures)) (c .if1 .left))
+loop-again c =
+    let x = c .before .before .before in
+    (omega arith, placing-on _ _ _ _ _ (x .before .loop .inv .1) (x .loop-test .taken) _ (c .before .before .part .ensures) _ (ap not (c .before .is-marked .ensures)) (c .if1 .left))
 
 returns-2 : tie.Need-returns-2 Inv-loop μ-loop
 returns-2 c = placing-end _ _ _ _ _ (c .before .loop .inv .1) (c .loop-test .left) ∙ sym (used-place _)

@@ -26,8 +26,8 @@ of-body-spec =
     (λ c κs. search needs)
     (λ c κs. search needs)
     number-requires
-    (λ c. search needs)
     (λ c κs. search needs)
     (λ c κs. search needs)
     (λ c. search needs)
+    (λ c κs. search needs)
     (λ c. search needs))
