@@ -1,22 +1,24 @@
--- Parts closed up in place: those that a test keeps move to the front, in order, and then the parts behind them are freed. Assumes nothing.
+-- Parts closed up in place: those that stay move to the front, in order, and then the parts behind them are freed. Assumes nothing.
 use mathlib.Core.Path.{_≡_, refl, sym, ap, _∙_}
 use mathlib.Core.Bool.{Bool, true, false}
 use mathlib.Core.List.{List, [], _∷_, _++_, append-assoc, append-nil}
 use Prim.Native.Nat.{ℕ, _+_, _-_, _*_, _≤_}
 use native.Mathlib.Omega.{arith}
+use native.Mathlib.Numerals.{add-one}
 use native.Mathlib.Nat.{mul-le-mul-right}
 use lib.ListN.{length, drop, replicate, take-append-drop, replicate-append-replicate}
 use lib.Seq.{drop-drop}
-use Rattle.theory.specs.Parts.{chop, partAt, partsFrom, length-part, length-chop}
+use Rattle.theory.specs.Count.{bump}
+use Rattle.theory.specs.Parts.{chop, partAt, length-part, length-chop}
 use Rattle.theory.specs.Each.{Each}
-use Rattle.theory.specs.Keep.{onto, sift, sift-append, sift-length}
-use Rattle.theory.specs.Join.{flat, flat-parts, flat-chop, chop-snoc, chop-split}
+use Rattle.theory.specs.Keep.{onto}
+use Rattle.theory.specs.Join.{flat, flat-append, flat-parts}
 use Rattle.theory.specs.Put.{putPart, length-put, drop-put, chop-push}
-use Rattle.theory.specs.Pad.{free, pad, length-free, pad-more, length-flat-pad, records-pad, rest-pad}
+use Rattle.theory.specs.Pad.{free, pad, length-free, pad-more, rest-pad}
 
--- k of the first i parts of b₀ are kept, in front in b; from part i on all is as it was
-pub record Closing (w : ℕ) (q : List ℕ → Bool) (b₀ b : List ℕ) (i k : ℕ) : Type 0 where
-  pub kept : chop w k b ≡ sift q (chop w i b₀)
+-- of the first i parts of b₀ the k in xs stay, in front in b; from part i on all is as it was
+pub record Closing (w : ℕ) (xs : List (List ℕ)) (b₀ b : List ℕ) (i k : ℕ) : Type 0 where
+  pub kept : chop w k b ≡ xs
   pub ahead : drop (i * w) b ≡ drop (i * w) b₀
   pub same-size : length b ≡ length b₀
   pub behind : k ≤ i
@@ -36,52 +38,46 @@ ahead-next w i b b₀ h =
 
 -- ---- closing up
 
-module _ (w : ℕ) (q : List ℕ → Bool) where
-  pub closing-start : (b : List ℕ) → Closing w q b b 0 0
-  unfolding chop sift
-  closing-start b = record { kept = refl; ahead = refl; same-size = refl; behind = omega arith }
+-- part i into part k where it stays
+unfoldable pub moved : Bool → ℕ → ℕ → ℕ → List ℕ → List ℕ
+moved true w i k b = putPart w k (partAt w i b) b
+moved false w i k b = b
 
-  -- a turn as the loop has it: x is part i, r what the test said of it, b′ and k′ what the turn left
-  module _ (b₀ b : List ℕ) (i k : ℕ) (c : Closing w q b₀ b i k) (fits : i * w + w ≤ length b₀) (x : List ℕ) (p : x ≡ partAt w i b) (r : Bool) (e : r ≡ q x)
-      (b′ : List ℕ) (k′ : ℕ) where
-    part-same : partAt w i b₀ ≡ x
-    unfolding partAt
-    part-same = sym (p ∙ rw (c .ahead))
+pub closing-start : (w : ℕ) (b : List ℕ) → Closing w [] b b 0 0
+unfolding chop
+closing-start w b = record { kept = refl; ahead = refl; same-size = refl; behind = omega arith }
 
-    sift-turn : sift q (chop w (i + 1) b₀) ≡ sift q (chop w i b₀) ++ onto r x []
-    unfolding sift
-    sift-turn = rw (chop-snoc w i b₀, part-same, e) (sift-append q (chop w i b₀) (x ∷ []))
+module _ (w : ℕ) (xs : List (List ℕ)) (b₀ b : List ℕ) (i k : ℕ) (c : Closing w xs b₀ b i k) where
+  -- as many as stay
+  pub closing-count : k ≡ length xs
+  closing-count = sym (length-chop w k b) ∙ ap length (c .kept)
 
-    pub closing-drop : r ≡ false → b′ ≡ b → k′ ≡ k → Closing w q b₀ b′ (i + 1) k′
-    unfolding onto
-    closing-drop h m l =
-        rw (m, l)
-        record {
-          kept = c .kept ∙ sym (sift-turn ∙ rw h (append-nil (sift q (chop w i b₀))));
-          ahead = ahead-next w i b b₀ (c .ahead);
-          same-size = c .same-size;
-          behind = omega arith;
-        }
+  part-same : partAt w i b ≡ partAt w i b₀
+  unfolding partAt
+  part-same = rw (c .ahead)
 
-    pub closing-keep : r ≡ true → b′ ≡ putPart w k (partAt w i b) b → k′ ≡ k + 1 → Closing w q b₀ b′ (i + 1) k′
-    unfolding onto
-    closing-keep h m l =
-        let s : length b ≡ length b₀ = c .same-size in
-        let o : k * w ≤ i * w = mul-le-mul-right w (c .behind) in
-        let f : k * w + w ≤ length b = omega arith in
-        let y : List ℕ = partAt w i b in
-        let v : length y ≡ w = length-part w i b (omega arith) in
-        rw (m, l)
-        record {
-          kept = chop-push w k y b f v ∙ sym (sift-turn ∙ rw (h, ← c .kept, p));
-          ahead = drop-put w k y b f v ((i + 1) * w) (omega arith) ∙ ahead-next w i b b₀ (c .ahead);
-          same-size = length-put w k y b f v ∙ s;
-          behind = omega arith;
-        }
+  -- a turn, where r says whether part i stays
+  turn : i * w + w ≤ length b₀ → (r : Bool) → Closing w (xs ++ onto r (partAt w i b₀) []) b₀ (moved r w i k b) (i + 1) (bump r k)
+  unfolding onto moved bump
+  turn fits false =
+      record { kept = c .kept ∙ sym (append-nil xs); ahead = ahead-next w i b b₀ (c .ahead); same-size = c .same-size; behind = omega (arith, c .behind) }
+  turn fits true =
+      let s : length b ≡ length b₀ = c .same-size in
+      let o : k * w ≤ i * w = mul-le-mul-right w (c .behind) in
+      let f : k * w + w ≤ length b = omega arith in
+      let y : List ℕ = partAt w i b in
+      let v : length y ≡ w = length-part w i b (omega arith) in
+      record {
+        kept = rw (← add-one k) (chop-push w k y b f v ∙ rw (c .kept, part-same));
+        ahead = drop-put w k y b f v ((i + 1) * w) (omega arith) ∙ ahead-next w i b b₀ (c .ahead);
+        same-size = length-put w k y b f v ∙ s;
+        behind = omega (arith, c .behind);
+      }
 
-  -- as many as the test keeps
-  pub closing-count : (b₀ b : List ℕ) (i k : ℕ) → Closing w q b₀ b i k → k ≡ length (sift q (chop w i b₀))
-  closing-count b₀ b i k c = sym (length-chop w k b) ∙ ap length (c .kept)
+  -- as the loop has it: b′ and k′ are what the turn left
+  pub closing-turn : i * w + w ≤ length b₀ → (r : Bool) (b′ : List ℕ) (k′ : ℕ) → b′ ≡ moved r w i k b → k′ ≡ bump r k
+      → Closing w (xs ++ onto r (partAt w i b₀) []) b₀ b′ (i + 1) k′
+  closing-turn fits r b′ k′ e h = rw (e, h) (turn fits r)
 
 -- ---- freeing
 
@@ -109,29 +105,15 @@ module _ (w : ℕ) where
 
 -- ---- both, over the first m parts
 
-module _ (w : ℕ) (q : List ℕ → Bool) (b₀ b₁ b : List ℕ) (m k : ℕ) (c : Closing w q b₀ b₁ m k) (d : Freeing w b₁ b k m) where
-  pub closed-parts : chop w m b ≡ pad w m (sift q (chop w m b₀))
-  unfolding pad
-  closed-parts = d .freed ∙ rw (c .kept, closing-count w q b₀ b₁ m k c)
-
-  pub closed-rest : drop (m * w) b ≡ drop (m * w) b₀
-  closed-rest = d .ahead ∙ c .ahead
-
-  pub closed-up : b ≡ flat (pad w m (sift q (chop w m b₀))) ++ drop (m * w) b₀
-  closed-up = sym (take-append-drop (m * w) b) ∙ rw (← flat-parts w m b, closed-parts, closed-rest)
-
--- what is the same from part m on has the same parts there
-rest-same : (w n m : ℕ) (b z : List ℕ) → drop (m * w) b ≡ drop (m * w) z → partsFrom w n m b ≡ partsFrom w n m z
-unfolding partsFrom
-rest-same w n m b z h = rw h
+pub closed-up : (w : ℕ) (xs : List (List ℕ)) (b₀ b₁ b : List ℕ) (m k : ℕ) → Closing w xs b₀ b₁ m k → Freeing w b₁ b k m → b ≡ flat (pad w m xs) ++ drop (m * w) b₀
+unfolding pad
+closed-up w xs b₀ b₁ b m k c d =
+    let e : chop w m b ≡ xs ++ replicate (m - length xs) (free w) = d .freed ∙ rw (c .kept, closing-count w xs b₀ b₁ m k c) in
+    let f : drop (m * w) b ≡ drop (m * w) b₀ = d .ahead ∙ c .ahead in
+    sym (take-append-drop (m * w) b) ∙ rw (← flat-parts w m b, e, f)
 
 -- the records of a padded block closed up
-pub closed-pad : (w n : ℕ) (q : List ℕ → Bool) {R : List (List ℕ)} → Each (λ r. length r ≡ w) R → length R ≤ n → (b₁ b : List ℕ) (k : ℕ)
-    → Closing w q (flat (pad w n R)) b₁ (length R) k → Freeing w b₁ b k (length R) → b ≡ flat (pad w n (sift q R))
-closed-pad w n q {R} h l b₁ b k c d =
-    let z : List ℕ = flat (pad w n R) in
-    let m : ℕ = length R in
-    let e : chop w m b ≡ pad w m (sift q R) = rw (records-pad w n h l) at (closed-parts w q z b₁ b m k c d) in
-    let s : length b ≡ n * w = d .same-size ∙ c .same-size ∙ length-flat-pad w n h l in
-    let r : partsFrom w n m b ≡ replicate (n - m) (free w) = rest-same w n m b z (closed-rest w q z b₁ b m k c d) ∙ rest-pad w n h l in
-    sym (flat-chop w n b s) ∙ rw (chop-split w n m b l, e, r, pad-more w n (sift q R) m (sift-length q R) l)
+pub closed-pad : (w n : ℕ) {R : List (List ℕ)} → Each (λ r. length r ≡ w) R → length R ≤ n → (xs : List (List ℕ)) → length xs ≤ length R
+    → flat (pad w (length R) xs) ++ drop (length R * w) (flat (pad w n R)) ≡ flat (pad w n xs)
+closed-pad w n {R} h l xs k =
+    rw (rest-pad w n h l, ← flat-append (pad w (length R) xs) (replicate (n - length R) (free w)), pad-more w n xs (length R) k l)

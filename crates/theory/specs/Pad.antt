@@ -1,16 +1,16 @@
 -- Records in front and free parts behind them, n parts in all; and the records read back from the bytes. Assumes nothing.
 use mathlib.Core.Path.{_≡_, refl, sym, ap, _∙_}
 use mathlib.Core.Bool.{Bool, true, false}
-use mathlib.Core.List.{List, [], _∷_, _++_, append-assoc, append-nil, append-cancel-left}
+use mathlib.Core.List.{List, [], _∷_, _++_, append-assoc, append-nil}
 use Prim.Native.Nat.{ℕ, zero, suc, _+_, _-_, _*_, _≤_, _<_}
 use native.Mathlib.Omega.{arith}
 use native.Mathlib.Nat.{mul-le-mul-right}
-use lib.ListN.{length, set, replicate, length-append, length-set, length-replicate, replicate-append-replicate}
-use lib.Seq.{set-append-left, set-at, take-at}
-use Rattle.theory.specs.Parts.{chop, partsFrom}
+use lib.ListN.{length, drop, set, replicate, length-append, length-set, length-replicate, replicate-append-replicate}
+use lib.Seq.{set-append-left, set-at, take-at, drop-at}
+use Rattle.theory.specs.Parts.{chop}
 use Rattle.theory.specs.Each.{Each, none, more, each-append, each-replicate}
 use Rattle.theory.specs.Keep.{sift, sift-append, sift-all, sift-none}
-use Rattle.theory.specs.Join.{flat, flat-append, length-flat, chop-flat, chop-take, chop-split}
+use Rattle.theory.specs.Join.{flat, flat-append, length-flat, chop-flat, chop-take}
 use Rattle.theory.specs.Put.{putPart, flat-set}
 
 -- a free part: w zeros
@@ -96,10 +96,10 @@ module _ (w n : ℕ) {R : List (List ℕ)} where
           let k : length R * w ≤ length (flat (pad w n R)) = omega (arith, length-flat-pad, mul-le-mul-right w l) in
           sym (chop-take w (length R) (flat (pad w n R)) k) ∙ rw (flat-append R F, take-at (flat R) (flat F) (length R * w) (length-flat w h)) (chop-flat w h)
 
-      -- and the others are free
-      pub rest-pad : partsFrom w n (length R) (flat (pad w n R)) ≡ replicate (n - length R) (free w)
+      -- and what lies behind them is free
+      pub rest-pad : drop (length R * w) (flat (pad w n R)) ≡ flat (replicate (n - length R) (free w))
       unfolding pad
-      rest-pad = append-cancel-left R _ _ (sym (rw (chop-pad, records-pad) at (chop-split w n (length R) (flat (pad w n R)) l)))
+      rest-pad = rw (flat-append R (replicate (n - length R) (free w))) (drop-at (flat R) (flat (replicate (n - length R) (free w))) (length R * w) (length-flat w h))
 
       -- a record written over another
       pub put-pad : (i : ℕ) (x : List ℕ) → i < length R → length x ≡ w → putPart w i x (flat (pad w n R)) ≡ flat (pad w n (set R i x))

@@ -2,9 +2,9 @@
 use mathlib.Core.Path.{_≡_, refl, sym}
 use mathlib.Core.Bool.{Bool, true, false, not, false≢true}
 use mathlib.Core.List.{List, [], _∷_, _++_, map}
-use Prim.Native.Nat.{ℕ, zero, suc, _+_, _≤_}
+use Prim.Native.Nat.{ℕ, zero, suc, _+_, _≤_, _<_}
 use native.Mathlib.Omega.{arith}
-use lib.ListN.{length}
+use lib.ListN.{length, getD}
 use Rattle.theory.specs.Same.{eqs}
 use Rattle.theory.specs.Count.{bump, bump-le, bump-and-le, count}
 use Rattle.theory.specs.Each.{Each, none, more}
@@ -63,6 +63,14 @@ module _ {A : Type 0} (p : ℕ → Bool) where
   pick-snoc [] (y ∷ xs) v x h = absurd (omega arith)
   pick-snoc (u ∷ vs) [] v x h = absurd (omega arith)
   pick-snoc (u ∷ vs) (y ∷ xs) v x h = rw (pick-snoc vs xs v x (omega arith)) (sym (onto-append (p u) y (pick p vs xs) (onto (p v) x [])))
+
+  -- one more to pick from, where there are verdicts enough
+  pub pick-next : (vs : List ℕ) (xs : List A) (x : A) → length xs < length vs → pick p vs (xs ++ x ∷ []) ≡ pick p vs xs ++ onto (p (getD vs (length xs) 0)) x []
+  unfolding pick
+  pick-next [] xs x h = absurd (omega arith)
+  pick-next (v ∷ []) [] x h = refl
+  pick-next (v ∷ u ∷ vs) [] x h = refl
+  pick-next (v ∷ vs) (y ∷ xs) x h = rw (pick-next vs xs x (omega arith)) (sym (onto-append (p v) y (pick p vs xs) (onto (p (getD vs (length xs) 0)) x [])))
 
   pub pick-length : (vs : List ℕ) (xs : List A) → length (pick p vs xs) ≤ length xs
   unfolding pick

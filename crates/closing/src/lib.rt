@@ -1,0 +1,88 @@
+// A block of slots closed up in place over a block of marks: a slot stays where its mark is 0.
+ghost use mathlib.Core.Path.{_≡_};
+ghost use Prim.Native.Nat.{_+_, _*_, _≤_};
+ghost use lib.ListN.{length};
+ghost use Rattle.theory.specs.Count.{bump};
+ghost use Rattle.theory.specs.Parts.{partAt};
+ghost use Rattle.theory.specs.Pick.{good};
+ghost use Rattle.theory.specs.Put.{putPart};
+ghost use Rattle.theory.specs.Pad.{free};
+ghost use Rattle.theory.specs.CloseUp.{Closing, Freeing, moved};
+ghost use Rattle.closing.specs.Closing.{kept, closedUp};
+
+const SLOT: usize = 128;
+
+fn put_slot(block: &mut [u8], i: usize, slot: &[u8])
+    requires { ⌜ (i * 128 + 128 ≤ length (now block)) × (length (now slot) ≡ 128) ⌝ }
+    ensures { λ _. ⌜ now (block .exit) ≡ putPart 128 i (now (slot .entry)) (now (block .entry)) ⌝ }
+{
+    let at = i * SLOT;
+    let behind = at + SLOT;
+    texts::copy(&mut block[at..behind], slot);
+}
+
+// The bytes of slot i into slot k.
+fn move_slot(block: &mut [u8], i: usize, k: usize)
+    requires { ⌜ (i * 128 + 128 ≤ length (now block)) × (k ≤ i) ⌝ }
+    ensures { λ _. ⌜ now (block .exit) ≡ putPart 128 k (partAt 128 i (now (block .entry))) (now (block .entry)) ⌝ }
+{
+    let mut slot = [0u8; SLOT];
+    texts::copy(&mut slot, texts::part(block, SLOT, i));
+    put_slot(block, k, &slot);
+}
+
+fn free_slot(block: &mut [u8], i: usize)
+    requires { ⌜ i * 128 + 128 ≤ length (now block) ⌝ }
+    ensures { λ _. ⌜ now (block .exit) ≡ putPart 128 i (free 128) (now (block .entry)) ⌝ }
+{
+    let slot = [0u8; SLOT];
+    put_slot(block, i, &slot);
+}
+
+// Slot i behind the k that stay, where its mark lets it stay; how many stay now.
+fn keep_slot(block: &mut [u8], i: usize, k: usize, mark: u8) -> usize
+    requires { ⌜ (i * 128 + 128 ≤ length (now block)) × (k ≤ i) ⌝ }
+    ensures { λ r. ⌜ (now (block .exit) ≡ moved (good mark) 128 i k (now (block .entry))) × (r ≡ bump (good mark) k) ⌝ }
+{
+    if mark != 0 {
+        return k;
+    }
+    move_slot(block, i, k);
+    k + 1
+}
+
+// The slots that stay moved to the front; how many they are.
+fn move_up(block: &mut [u8], marks: &[u8], n: usize) -> usize
+    requires { ⌜ (n * 128 ≤ length (now block)) × (n ≤ length (now marks)) ⌝ }
+    ensures { λ r. ⌜ Closing 128 (kept 128 n (now (marks .entry)) (now (block .entry))) (now (block .entry)) (now (block .exit)) n r ⌝ }
+{
+    let mut k: usize = 0;
+    let mut i: usize = 0;
+    while i < n {
+        k = keep_slot(block, i, k, marks[i]);
+        i += 1;
+    }
+    k
+}
+
+// The slots k to n freed.
+fn free_up(block: &mut [u8], k: usize, n: usize)
+    requires { ⌜ (n * 128 ≤ length (now block)) × (k ≤ n) ⌝ }
+    ensures { λ _. ⌜ Freeing 128 (now (block .entry)) (now (block .exit)) k n ⌝ }
+{
+    let mut j = k;
+    while j < n {
+        free_slot(block, j);
+        j += 1;
+    }
+}
+
+// The marked ones of the first n slots go; how many stay.
+pub fn close_up(block: &mut [u8], marks: &[u8], n: usize) -> usize
+    requires { ⌜ (n * 128 ≤ length (now block)) × (n ≤ length (now marks)) ⌝ }
+    ensures { λ r. ⌜ (now (block .exit) ≡ closedUp 128 n (now (marks .entry)) (now (block .entry))) × (r ≡ length (kept 128 n (now (marks .entry)) (now (block .entry)))) ⌝ }
+{
+    let k = move_up(block, marks, n);
+    free_up(block, k, n);
+    k
+}

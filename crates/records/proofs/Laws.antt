@@ -1,0 +1,35 @@
+-- A record written field by field. Assumes nothing.
+use mathlib.Core.Path.{_≡_, refl, ap, _∙_}
+use mathlib.Core.List.{List, []}
+use Prim.Native.Nat.{ℕ, _+_, _-_, _≤_}
+use native.Mathlib.Omega.{arith}
+use lib.ListN.{length}
+use Rattle.theory.specs.Text.{bytes}
+use Rattle.texts.specs.Field.{field, lineEnd}
+use Rattle.texts.specs.Laws.{field-length}
+use Rattle.texts.specs.Put.{putField, written-start, written-next, written-end}
+use Rattle.columns.specs.Columns.{validTo}
+use Rattle.lines.specs.End.{endOf, recordOf}
+use Rattle.records.specs.Written.{length-end}
+
+-- a field of a line, as its reader has it
+pub wide : (from to : ℕ) (l f : List ℕ) → f ≡ field from to l → 127 ≤ length l → 1 ≤ from → to ≤ 127 → length f ≡ to + 1 - from
+wide from to l f e h a k = ap length e ∙ field-length from to l a (omega arith)
+
+-- s₁ to s₅ are the slot after each field
+pub record-written : (reception l s₀ s₁ s₂ s₃ s₄ s₅ f v g : List ℕ) → length s₀ ≡ 128 → 127 ≤ length l → length reception ≡ 14
+    → f ≡ field 2 100 l → v ≡ validTo l → g ≡ field 115 127 l
+    → s₁ ≡ putField 1 (bytes "1") s₀ → s₂ ≡ putField 2 f s₁ → s₃ ≡ putField 101 (endOf reception v) s₂ → s₄ ≡ putField 115 g s₃ → s₅ ≡ putField 128 lineEnd s₄
+    → s₅ ≡ recordOf reception l
+unfolding recordOf
+record-written reception l s₀ s₁ s₂ s₃ s₄ s₅ f v g n h m ef ev eg e₁ e₂ e₃ e₄ e₅ =
+    let nf : length f ≡ 99 = wide 2 100 l f ef h (omega arith) (omega arith) in
+    let nv : length v ≡ 14 = wide 101 114 l v ev h (omega arith) (omega arith) in
+    let ng : length g ≡ 13 = wide 115 127 l g eg h (omega arith) (omega arith) in
+    let ne : length (endOf reception v) ≡ 14 = length-end reception v nv m in
+    let w₁ = written-next 128 1 [] s₀ (written-start s₀ 128 n) (bytes "1") s₁ 2 e₁ refl (omega arith) (omega arith) in
+    let w₂ = written-next 128 2 _ s₁ w₁ f s₂ 101 e₂ (omega arith) (omega arith) (omega arith) in
+    let w₃ = written-next 128 101 _ s₂ w₂ (endOf reception v) s₃ 115 e₃ (omega arith) (omega arith) (omega arith) in
+    let w₄ = written-next 128 115 _ s₃ w₃ g s₄ 128 e₄ (omega arith) (omega arith) (omega arith) in
+    let w₅ = written-next 128 128 _ s₄ w₄ lineEnd s₅ 129 e₅ refl (omega arith) (omega arith) in
+    written-end 128 129 _ s₅ w₅ (omega arith) ∙ rw (ef, ev, eg)

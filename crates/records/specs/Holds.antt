@@ -1,0 +1,108 @@
+-- A line that keeps the rules of a record keeps them as it is written. Assumes nothing.
+use mathlib.Core.Path.{_≡_, refl, sym, _∙_}
+use mathlib.Core.Bool.{Bool, true, false, cond, _&&_, _||_}
+use mathlib.Core.List.{List}
+use Prim.Native.Nat.{ℕ, _≤_}
+use native.Mathlib.Omega.{arith}
+use lib.Dec.{leb}
+use lib.ListN.{length, length-take, length-drop}
+use borrow.Author.Tests.{leb-true}
+use Rattle.theory.specs.Truth.{and-left, and-right, and-split, or-true}
+use Rattle.theory.specs.Every.{run, run-length}
+use Rattle.texts.specs.Field.{field}
+use Rattle.fields.specs.Field.{digit, zero, blank, plain}
+use Rattle.times.specs.Time.{realTime}
+use Rattle.times.specs.Moment.{real-length}
+use Rattle.times.specs.Order.{earlier}
+use Rattle.columns.specs.Columns.{text, actor, shadow, co2, weight, validTo, filler}
+use Rattle.vehicles.specs.Vehicle.{L10, tariffHolds, classHolds, emissionHolds, productHolds, engineHolds, validToHolds, separatorHolds, fieldsHold, weightHolds}
+use Rattle.lines.specs.Rules.{L1, L5, L6, L7, L8, L9, recordHolds}
+use Rattle.lines.specs.Coverage.{record-covered}
+use Rattle.lines.specs.End.{endOf, recordOf}
+use Rattle.records.specs.Written.{record-front, record-rest, record-end}
+
+-- the rules ask for 127 positions
+pub record-long : (l : List ℕ) → recordHolds l ≡ true → 127 ≤ length l
+unfolding field
+record-long l h = omega (arith, simp (length-take, length-drop) at (run-length plain 126 (text l) (record-covered l h)))
+
+valid-in : (l : List ℕ) → recordHolds l ≡ true → validToHolds l ≡ true
+unfolding recordHolds L10 fieldsHold
+valid-in l h =
+    let t : Bool = run blank 6 (shadow l) && tariffHolds l && classHolds l && productHolds l && engineHolds l && run digit 2 (co2 l) && run digit 4 (weight l) in
+    let k : emissionHolds l && fieldsHold l && weightHolds l ≡ true = and-right (run digit 6 (actor l) && L1 l && L5 l && L6 l && L7 l && L8 l && L9 l) (L10 l) h in
+    let f : fieldsHold l ≡ true = and-right (emissionHolds l) (fieldsHold l) (and-left (emissionHolds l && fieldsHold l) (weightHolds l) k) in
+    and-right t (validToHolds l) (and-left (t && validToHolds l) (separatorHolds l) (and-left (t && validToHolds l && separatorHolds l) (run zero 11 (filler l)) f))
+
+-- the end of a time is zeros or real, as the time was
+end-real : (reception v : List ℕ) → realTime reception ≡ true → run zero 14 v || realTime v ≡ true → run zero 14 (endOf reception v) || realTime (endOf reception v) ≡ true
+unfolding endOf
+end-real reception v r h = go (run zero 14 v) (earlier reception v) refl
+  where
+    go : (a b : Bool) → run zero 14 v ≡ a → run zero 14 (cond a v (cond b v reception)) || realTime (cond a v (cond b v reception)) ≡ true
+    go true b e = h
+    go false true e = h
+    go false false e = or-true (run zero 14 reception) (realTime reception) r
+
+module _ (reception l : List ℕ) (h : recordHolds l ≡ true) (real : realTime reception ≡ true) where
+  front : (a b : ℕ) → leb 2 a && leb a b && leb b 100 ≡ true → field a b (recordOf reception l) ≡ field a b l
+  front a b k =
+      let s = and-split (leb 2 a && leb a b) (leb b 100) k in
+      let t = and-split (leb 2 a) (leb a b) (s .0) in
+      record-front reception l (record-long l h) (real-length reception real) a b (leb-true 2 a (t .0)) (leb-true a b (t .1)) (leb-true b 100 (s .1))
+
+  rest : (a b : ℕ) → 115 ≤ a → a ≤ b → b ≤ 127 → field a b (recordOf reception l) ≡ field a b l
+  rest = record-rest reception l (record-long l h) (real-length reception real)
+
+  valid : validToHolds (recordOf reception l) ≡ validToHolds l
+  unfolding validToHolds
+  valid =
+      rw (record-end reception l (record-long l h) (real-length reception real))
+      (end-real reception (validTo l) real (valid-in l h) ∙ sym (valid-in l h))
+
+  separators : separatorHolds (recordOf reception l) ≡ separatorHolds l
+  unfolding separatorHolds
+  separators = rw (rest 115 116 (omega arith) (omega arith) (omega arith), front 33 42 refl)
+
+  fields : fieldsHold (recordOf reception l) ≡ fieldsHold l
+  unfolding fieldsHold tariffHolds classHolds productHolds engineHolds
+  fields =
+      rw (
+        valid,
+        separators,
+        front 8 13 refl,
+        front 46 47 refl,
+        front 48 48 refl,
+        front 49 49 refl,
+        front 86 87 refl,
+        front 88 88 refl,
+        front 89 91 refl,
+        front 92 94 refl,
+        front 95 96 refl,
+        front 97 100 refl,
+        rest 117 127 (omega arith) (omega arith) (omega arith),
+      )
+
+  vehicle : L10 (recordOf reception l) ≡ L10 l
+  unfolding L10 emissionHolds weightHolds
+  vehicle =
+      rw (
+        fields,
+        front 80 85 refl,
+        front 46 47 refl,
+        front 97 100 refl,
+      )
+
+  pub record-holds : recordHolds (recordOf reception l) ≡ true
+  unfolding recordHolds L1 L5 L6 L7 L8 L9
+  record-holds =
+      rw (
+        vehicle,
+        front 2 7 refl,
+        front 14 32 refl,
+        front 33 42 refl,
+        front 43 45 refl,
+        front 50 61 refl,
+        front 62 79 refl,
+      )
+      h

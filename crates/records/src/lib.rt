@@ -1,0 +1,50 @@
+// The record that a taken line becomes, written into its slot.
+ghost use mathlib.Core.Path.{_≡_};
+ghost use Prim.Native.Nat.{_+_, _*_, _≤_};
+ghost use lib.ListN.{length};
+ghost use Rattle.theory.specs.Put.{putPart};
+ghost use Rattle.texts.specs.Put.{putField};
+ghost use Rattle.lines.specs.End.{endOf, recordOf};
+
+const SLOT: usize = 128;
+
+const IDENTIFIER: usize = 1;
+
+const LINE_END: usize = 128;
+
+// What a Valid to becomes at a reception.
+fn put_end(slot: &mut [u8], given: &[u8], reception: &[u8])
+    requires { ⌜ (length (now slot) ≡ 128) × ((length (now given) ≡ 14) × (length (now reception) ≡ 14)) ⌝ }
+    ensures { λ _. ⌜ now (slot .exit) ≡ putField 101 (endOf (now (reception .entry)) (now (given .entry))) (now (slot .entry)) ⌝ }
+{
+    if fields::is_zeros(given, 14) | times::is_earlier(reception, given) {
+        texts::put_field(slot, columns::VALID_TO_FROM, given);
+        return;
+    }
+    texts::put_field(slot, columns::VALID_TO_FROM, reception);
+}
+
+// Every byte of the slot is written.
+pub fn write_record(slot: &mut [u8], line: &[u8], reception: &[u8])
+    requires { ⌜ (length (now slot) ≡ 128) × ((127 ≤ length (now line)) × (length (now reception) ≡ 14)) ⌝ }
+    ensures { λ _. ⌜ now (slot .exit) ≡ recordOf (now (reception .entry)) (now (line .entry)) ⌝ }
+{
+    let front = texts::field(line, columns::ACTOR_FROM, columns::WEIGHT_TO);
+    let given = texts::field(line, columns::VALID_TO_FROM, columns::VALID_TO_TO);
+    let rest = texts::field(line, columns::SEPARATOR_FROM, columns::FILLER_TO);
+    texts::put_field(slot, IDENTIFIER, b"1");
+    texts::put_field(slot, columns::ACTOR_FROM, front);
+    put_end(slot, given, reception);
+    texts::put_field(slot, columns::SEPARATOR_FROM, rest);
+    texts::put_field(slot, LINE_END, b"\n");
+}
+
+// The record of a line written into slot i of a register.
+pub fn put_record(register: &mut [u8], i: usize, line: &[u8], reception: &[u8])
+    requires { ⌜ (i * 128 + 128 ≤ length (now register)) × ((127 ≤ length (now line)) × (length (now reception) ≡ 14)) ⌝ }
+    ensures { λ _. ⌜ now (register .exit) ≡ putPart 128 i (recordOf (now (reception .entry)) (now (line .entry))) (now (register .entry)) ⌝ }
+{
+    let at = i * SLOT;
+    let behind = at + SLOT;
+    write_record(&mut register[at..behind], line, reception);
+}

@@ -1,0 +1,21 @@
+-- Assumes nothing.
+use borrow.Author.Needs.{needs}
+use Rattle.texts.proofs.Laws.{put-lent}
+use Rattle.texts.proofs.put_field.Statement.{statement}
+use Rattle.texts.proofs.put_field.Tie as tie
+
+returns : tie.Need-returns
+returns c = put-lent _ _ _ _ (c .before .before .copy .ensures)
+
+pub put-field-spec : {M : Type 1} → statement M
+put-field-spec =
+    tie.close
+    (tie.spec
+    (λ c. search needs)
+    (λ c. search needs)
+    (λ c. search needs)
+    (λ c. search needs)
+    (λ c. search needs)
+    (λ c κs. search needs)
+    (λ c. search needs)
+    returns)
