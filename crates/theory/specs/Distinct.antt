@@ -10,6 +10,7 @@ use Rattle.theory.specs.Truth.{and-left, and-right, and-none, or-left, o
 use Rattle.theory.specs.Same.{eqs, eqs-refl, eqs-sym, mem, mem-append}
 use Rattle.theory.specs.Each.{Each, none, more, each-map}
 use Rattle.theory.specs.Keep.{onto, sift, map-onto, mem-onto}
+use Rattle.theory.specs.Pick.{pick}
 
 -- none stands among those behind it
 unfoldable pub distinct : List (List ℕ) → Bool
@@ -60,6 +61,27 @@ module _ {A : Type 0} (key : A → List ℕ) (p : A → Bool) where
   distinct-sift (x ∷ xs) h =
       rw (map-onto key (p x) x (sift p xs))
       (distinct-onto (p x) (key x) (map key (sift p xs)) (λ e. mem-sift (key x) xs (distinct-head (key x) (map key xs) h)) (distinct-sift xs (distinct-tail (key x) (map key xs) h)))
+
+-- ---- of those that are picked
+
+module _ {A : Type 0} (key : A → List ℕ) (p : ℕ → Bool) where
+  mem-pick : (t : List ℕ) (vs : List ℕ) (xs : List A) → mem t (map key xs) ≡ false → mem t (map key (pick p vs xs)) ≡ false
+  unfolding pick mem
+  mem-pick t [] xs h = refl
+  mem-pick t (v ∷ vs) [] h = refl
+  mem-pick t (v ∷ vs) (x ∷ xs) h =
+      rw (map-onto key (p v) x (pick p vs xs), mem-onto t (p v) (key x) (map key (pick p vs xs)))
+      (or-both (p v && eqs t (key x)) _ (and-none (p v) (eqs t (key x)) (or-left (eqs t (key x)) (mem t (map key xs)) h))
+      (mem-pick t vs xs (or-right (eqs t (key x)) (mem t (map key xs)) h)))
+
+  pub distinct-pick : (vs : List ℕ) (xs : List A) → distinct (map key xs) ≡ true → distinct (map key (pick p vs xs)) ≡ true
+  unfolding pick distinct
+  distinct-pick [] xs h = refl
+  distinct-pick (v ∷ vs) [] h = refl
+  distinct-pick (v ∷ vs) (x ∷ xs) h =
+      rw (map-onto key (p v) x (pick p vs xs))
+      (distinct-onto (p v) (key x) (map key (pick p vs xs)) (λ e. mem-pick (key x) vs xs (distinct-head (key x) (map key xs) h))
+      (distinct-pick vs xs (distinct-tail (key x) (map key xs) h)))
 
 -- ---- by their places
 

@@ -2,7 +2,7 @@
 use mathlib.Core.List.{List, [], _∷_, _++_, map}
 use Prim.Native.Nat.{ℕ, zero, suc, _<_}
 use native.Mathlib.Omega.{arith}
-use lib.ListN.{length, getD, replicate}
+use lib.ListN.{length, getD, set, replicate}
 
 -- each of the list has the property q
 pub data Each {A : Type 0} (q : A → Type 0) : List A → Type 0 where
@@ -42,3 +42,9 @@ module _ {A : Type 0} {q : A → Type 0} where
   pub each-replicate : (n : ℕ) (x : A) → q x → Each q (replicate n x)
   each-replicate zero x h = none
   each-replicate (suc n) x h = more h (each-replicate n x h)
+
+-- one replaced
+pub each-set : {A : Type 0} {q : A → Type 0} {xs : List A} → Each q xs → (i : ℕ) (x : A) → q x → Each q (set xs i x)
+each-set none i x h = none
+each-set (more k ks) zero x h = more h ks
+each-set (more k ks) (suc i) x h = more k (each-set ks i x h)

@@ -1,0 +1,88 @@
+-- A register in order stays in order (T9's part): what is written into a slot is a used slot, and a record replaced by one
+-- with its PAN, a record with a new PAN added, and records closed up leave a register in order, with the records that
+-- follow. Assumes nothing.
+use mathlib.Core.Path.{_≡_, refl, sym, ap, _∙_}
+use mathlib.Core.Bool.{Bool, true, false, _&&_}
+use mathlib.Core.List.{List, [], _∷_, _++_, map, map-append}
+use Prim.Native.Nat.{ℕ, _+_, _*_, _≤_, _<_}
+use native.Mathlib.Omega.{arith}
+use lib.ListN.{length, getD, set, length-append, length-set}
+use lib.Seq.{map-set-same}
+use Rattle.theory.specs.Text.{bytes}
+use Rattle.theory.specs.Same.{eqs, eqs-refl, mem}
+use Rattle.theory.specs.Each.{Each, none, more, each-append, each-set}
+use Rattle.theory.specs.Pick.{good, pick, all-pick, pick-length}
+use Rattle.theory.specs.Distinct.{distinct, distinct-append, distinct-pick}
+use Rattle.theory.specs.Join.{flat}
+use Rattle.theory.specs.Put.{putPart}
+use Rattle.theory.specs.Pad.{pad, put-pad, push-pad}
+use Rattle.texts.specs.Field.{field, lineEnd}
+use Rattle.times.specs.Time.{realTime}
+use Rattle.times.specs.Moment.{real-length}
+use Rattle.columns.specs.Columns.{panOf}
+use Rattle.lines.specs.Rules.{recordHolds}
+use Rattle.lines.specs.End.{recordOf}
+use Rattle.records.specs.Written.{length-record, record-first, record-last}
+use Rattle.records.specs.Holds.{record-long, record-holds}
+use Rattle.closing.specs.Closing.{closedUp, closed-records}
+use Rattle.register.specs.Register.{slotLength, slotsMost, slotsIn, marked, usedForm, records, usedIn, inOrder}
+use Rattle.register.specs.Laws.{Ordered, ordered, used-most, records-pad, order-pad}
+
+-- ---- what is written
+
+module _ (reception l : List ℕ) (h : recordHolds l ≡ true) (r : realTime reception ≡ true) where
+  pub written-length : length (recordOf reception l) ≡ slotLength
+  written-length = length-record reception l (record-long l h) (real-length reception r)
+
+  pub written-used : usedForm (recordOf reception l) ≡ true
+  unfolding usedForm marked
+  written-used =
+      rw (
+        record-first reception l (record-long l h) (real-length reception r),
+        record-last reception l (record-long l h) (real-length reception r),
+        record-holds reception l h r,
+        eqs-refl (bytes "1"),
+        eqs-refl lineEnd,
+      )
+
+-- ---- the register after
+
+-- b holds the records R and is in order
+pub record Holds (n : ℕ) (R : List (List ℕ)) (b : List ℕ) : Type 0 where
+  pub order : inOrder b ≡ true
+  pub held : records b ≡ R
+
+holds : (n : ℕ) {R : List (List ℕ)} → Each (λ r. length r ≡ slotLength) R → Each (λ r. usedForm r ≡ true) R → distinct (map panOf R) ≡ true → length R ≤ n → n ≤ slotsMost
+    → (b : List ℕ) → b ≡ flat (pad slotLength n R) → Holds n R b
+holds n z u d l m b e = rw e record { order = order-pad n z l u d m; held = records-pad n z l u }
+
+module _ (b : List ℕ) (h : inOrder b ≡ true) where
+  o : Ordered b
+  o = ordered b h
+
+  module _ (x : List ℕ) (w : length x ≡ slotLength) (f : usedForm x ≡ true) where
+    -- a record replaced by one with its PAN
+    pub replaced : (i : ℕ) → i < usedIn b → panOf x ≡ panOf (getD (records b) i []) → Holds (slotsIn b) (set (records b) i x) (putPart slotLength i x b)
+    replaced i k e =
+        let R : List (List ℕ) = records b in
+        holds (slotsIn b) (each-set (o .sized) i x w) (each-set (o .used) i x f) (rw (map-set-same panOf R i x [] e) (o .apart))
+        (rw (length-set R i x) (used-most b)) (o .most) (putPart slotLength i x b)
+        (ap (putPart slotLength i x) (o .padded) ∙ put-pad slotLength (slotsIn b) (o .sized) (used-most b) i x k w)
+
+    -- a record with a PAN that none has, in the first free slot
+    pub added : usedIn b < slotsIn b → mem (panOf x) (map panOf (records b)) ≡ false → Holds (slotsIn b) (records b ++ x ∷ []) (putPart slotLength (usedIn b) x b)
+    unfolding distinct mem
+    added k e =
+        let R : List (List ℕ) = records b in
+        holds (slotsIn b) (each-append (o .sized) (more w none)) (each-append (o .used) (more f none))
+        (rw (map-append panOf R (x ∷ [])) (distinct-append (map panOf R) (panOf x ∷ []) (o .apart) refl (more e none)))
+        (rw (length-append R (x ∷ [])) (omega arith)) (o .most) (putPart slotLength (usedIn b) x b)
+        (ap (putPart slotLength (usedIn b) x) (o .padded) ∙ push-pad slotLength (slotsIn b) (o .sized) x k w)
+
+  -- the marked records gone and the others closed up
+  pub closed : (marks : List ℕ) → Holds (slotsIn b) (pick good marks (records b)) (closedUp slotLength (usedIn b) marks b)
+  closed marks =
+      let R : List (List ℕ) = records b in
+      holds (slotsIn b) (all-pick good marks (o .sized)) (all-pick good marks (o .used)) (distinct-pick panOf good marks R (o .apart))
+      (omega (arith, pick-length good marks R, used-most b)) (o .most) (closedUp slotLength (usedIn b) marks b)
+      (ap (closedUp slotLength (usedIn b) marks) (o .padded) ∙ closed-records slotLength (slotsIn b) (o .sized) (used-most b) marks)
