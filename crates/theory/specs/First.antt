@@ -3,10 +3,10 @@
 use mathlib.Core.Path.{_≡_, refl, _∙_}
 use mathlib.Core.Bool.{Bool, true, false, _&&_}
 use mathlib.Core.List.{List, [], _∷_, _++_}
-use Prim.Native.Nat.{ℕ, _<_}
+use Prim.Native.Nat.{ℕ, zero, suc, _≤_, _<_}
 use native.Mathlib.Omega.{arith}
-use lib.Dec.{ltb}
-use borrow.Author.Tests.{ltb-true}
+use lib.Dec.{leb, ltb}
+use borrow.Author.Tests.{leb-true, ltb-true}
 use Rattle.theory.specs.Truth.{and-left, and-right}
 
 pub record Rule : Type 0 where
@@ -75,3 +75,37 @@ none-head r rs (more e n) = e
 
 pub none-tail : (r : Rule) (rs : List Rule) → None (r ∷ rs) → None rs
 none-tail r rs (more e n) = n
+
+-- ---- rules behind rules
+
+-- n, or where that is 0 what the rules behind say
+unfoldable pub otherwise : ℕ → ℕ → ℕ
+otherwise zero m = m
+otherwise (suc n) m = suc n
+
+pub first-append : (rs qs : List Rule) → numbered rs ≡ true → first (rs ++ qs) ≡ otherwise (first rs) (first qs)
+unfolding first choose numbered otherwise
+first-append [] qs n = refl
+first-append (r ∷ rs) qs n =
+    rw (first-append rs qs (and-right (ltb 0 (r .number)) (numbered rs) n))
+    (go (r .fits) (r .number) (ltb-true 0 (r .number) (and-left (ltb 0 (r .number)) (numbered rs) n)))
+  where
+    go : (b : Bool) (k : ℕ) → 0 < k → choose b k (otherwise (first rs) (first qs)) ≡ otherwise (choose b k (first rs)) (first qs)
+    go true zero h = absurd (omega arith)
+    go true (suc k) h = refl
+    go false k h = refl
+
+-- no number is above k
+unfoldable pub numberedTo : ℕ → List Rule → Bool
+numberedTo k [] = true
+numberedTo k (r ∷ rs) = leb (r .number) k && numberedTo k rs
+
+pub first-most : (k : ℕ) (rs : List Rule) → numberedTo k rs ≡ true → first rs ≤ k
+unfolding first choose numberedTo
+first-most k [] n = omega arith
+first-most k (r ∷ rs) n =
+    go (r .fits) (leb-true (r .number) k (and-left (leb (r .number) k) (numberedTo k rs) n)) (first-most k rs (and-right (leb (r .number) k) (numberedTo k rs) n))
+  where
+    go : (b : Bool) → r .number ≤ k → first rs ≤ k → choose b (r .number) (first rs) ≤ k
+    go true h m = h
+    go false h m = m

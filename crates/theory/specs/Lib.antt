@@ -18,3 +18,4 @@ pub mod Pad
 pub mod CloseUp
 pub mod Place
 pub mod Counting
+pub mod Tally
