@@ -19,3 +19,5 @@ pub mod CloseUp
 pub mod Place
 pub mod Counting
 pub mod Tally
+pub mod Scan
+pub mod Among

@@ -4,7 +4,8 @@ use mathlib.Core.Bool.{Bool, true, false, not, false≢true}
 use mathlib.Core.List.{List, [], _∷_, _++_, map}
 use Prim.Native.Nat.{ℕ, zero, suc, _+_, _≤_, _<_}
 use native.Mathlib.Omega.{arith}
-use lib.ListN.{length, getD}
+use lib.ListN.{length, take, getD}
+use lib.Seq.{take-nil}
 use Rattle.theory.specs.Same.{eqs}
 use Rattle.theory.specs.Count.{bump, bump-le, bump-and-le, count}
 use Rattle.theory.specs.Each.{Each, none, more}
@@ -71,6 +72,15 @@ module _ {A : Type 0} (p : ℕ → Bool) where
   pick-next (v ∷ []) [] x h = refl
   pick-next (v ∷ u ∷ vs) [] x h = refl
   pick-next (v ∷ vs) (y ∷ xs) x h = rw (pick-next vs xs x (omega arith)) (sym (onto-append (p v) y (pick p vs xs) (onto (p (getD vs (length xs) 0)) x [])))
+
+  -- verdicts that nothing belongs to do not count
+  pub pick-take : (n : ℕ) (vs : List ℕ) (xs : List A) → length xs ≡ n → pick p (take n vs) xs ≡ pick p vs xs
+  unfolding pick
+  pick-take n [] xs h = rw (take-nil n)
+  pick-take zero (v ∷ vs) [] h = refl
+  pick-take (suc n) (v ∷ vs) [] h = absurd (omega arith)
+  pick-take zero (v ∷ vs) (x ∷ xs) h = absurd (omega arith)
+  pick-take (suc n) (v ∷ vs) (x ∷ xs) h = rw (pick-take n vs xs (omega arith))
 
   pub pick-length : (vs : List ℕ) (xs : List A) → length (pick p vs xs) ≤ length xs
   unfolding pick

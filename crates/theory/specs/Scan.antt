@@ -1,0 +1,99 @@
+-- Lines judged one after the other, from the first to the last: each by itself and by those taken before it.
+-- Assumes nothing.
+use mathlib.Core.Path.{_≡_, refl, sym, ap, _∙_}
+use mathlib.Core.Bool.{Bool, true, false, _||_}
+use mathlib.Core.List.{List, [], _∷_, _++_, map, append-assoc, append-nil, map-append}
+use Prim.Native.Nat.{ℕ, zero, suc, _+_, _<_}
+use native.Mathlib.Numerals.{add-one}
+use native.Mathlib.Omega.{arith}
+use lib.ListN.{length, take, set}
+use lib.Seq.{take-all, take-suc-set}
+use Rattle.theory.specs.Same.{eqs, eqs-sym, mem}
+use Rattle.theory.specs.Each.{Each, none, more}
+use Rattle.theory.specs.Walk.{some}
+use Rattle.theory.specs.Keep.{onto, onto-append, each-onto}
+use Rattle.theory.specs.Pick.{good, pick, good-zero, pick-take}
+use Rattle.theory.specs.Parts.{chop, partAt, length-chop}
+use Rattle.theory.specs.Join.{chop-snoc}
+use Rattle.theory.specs.Distinct.{distinct, distinct-append}
+
+-- the lines taken so far, after one more was judged
+unfoldable pub takenNext : ℕ → List ℕ → List (List ℕ) → List (List ℕ)
+takenNext v l taken = taken ++ onto (good v) l []
+
+-- the verdicts of the lines, where f judges a line beside those taken before it, and 0 is taken
+unfoldable pub scan : (List (List ℕ) → List ℕ → ℕ) → List (List ℕ) → List (List ℕ) → List ℕ
+scan f taken [] = []
+scan f taken (l ∷ ls) = f taken l ∷ scan f (takenNext (f taken l) l taken) ls
+
+-- with those picked of the rest, all that are taken
+pub taken-next : (v : ℕ) (l : List ℕ) (taken ps : List (List ℕ)) → takenNext v l taken ++ ps ≡ taken ++ onto (good v) l ps
+unfolding takenNext
+taken-next v l taken ps = append-assoc taken (onto (good v) l []) ps ∙ ap (λ (ys : List (List ℕ)). taken ++ ys) (onto-append (good v) l [] ps)
+
+module _ (f : List (List ℕ) → List ℕ → ℕ) where
+  pub length-scan : (taken ls : List (List ℕ)) → length (scan f taken ls) ≡ length ls
+  unfolding scan
+  length-scan taken [] = refl
+  length-scan taken (l ∷ ls) = ap suc (length-scan (takenNext (f taken l) l taken) ls)
+
+  -- a line at the end changes no verdict before it, and is judged beside those taken of them
+  pub scan-next : (taken ls : List (List ℕ)) (l : List ℕ) → scan f taken (ls ++ l ∷ []) ≡ scan f taken ls ++ f (taken ++ pick good (scan f taken ls) ls) l ∷ []
+  unfolding scan pick
+  scan-next taken [] l = rw (append-nil taken)
+  scan-next taken (x ∷ ls) l =
+      let t : List (List ℕ) = takenNext (f taken x) x taken in
+      rw (← taken-next (f taken x) x taken (pick good (scan f t ls) ls)) (ap (λ (vs : List ℕ). f taken x ∷ vs) (scan-next t ls l))
+
+  -- what follows from the verdict 0 is so of each that is taken
+  pub each-scan : {q : List ℕ → Type 0} → ((taken : List (List ℕ)) (l : List ℕ) → f taken l ≡ 0 → q l)
+      → (taken ls : List (List ℕ)) → Each q (pick good (scan f taken ls) ls)
+  unfolding scan pick
+  each-scan g taken [] = none
+  each-scan g taken (l ∷ ls) =
+      each-onto (good (f taken l)) l _ (λ e. g taken l (good-zero (f taken l) e)) (each-scan g (takenNext (f taken l) l taken) ls)
+
+  -- where the verdict 0 says that none taken before has the line's key, all that are taken differ in it
+  pub distinct-scan : (key : List ℕ → List ℕ) → ((taken : List (List ℕ)) (l : List ℕ) → f taken l ≡ 0 → mem (key l) (map key taken) ≡ false)
+      → (taken ls : List (List ℕ)) → distinct (map key taken) ≡ true → distinct (map key (taken ++ pick good (scan f taken ls) ls)) ≡ true
+  unfolding scan pick distinct takenNext onto good mem
+  distinct-scan key g taken [] d = rw (append-nil taken) d
+  distinct-scan key g taken (l ∷ ls) d =
+      let t : List (List ℕ) = takenNext (f taken l) l taken in
+      rw (← taken-next (f taken l) l taken (pick good (scan f t ls) ls)) (distinct-scan key g t ls (one (f taken l) (λ e. g taken l e)))
+    where
+      one : (v : ℕ) → (v ≡ 0 → mem (key l) (map key taken) ≡ false) → distinct (map key (takenNext v l taken)) ≡ true
+      one zero h = rw (map-append key taken (l ∷ [])) (distinct-append (map key taken) (key l ∷ []) d refl (more (h refl) none))
+      one (suc v) h = rw (append-nil taken) d
+
+-- one with this key, as a search finds it
+pub some-key : (key : List ℕ → List ℕ) (t : List ℕ) (xs : List (List ℕ)) → some (λ x. eqs (key x) t) xs ≡ mem t (map key xs)
+unfolding some mem
+some-key key t [] = refl
+some-key key t (x ∷ xs) = rw (some-key key t xs, eqs-sym (key x) t)
+
+-- ---- a walk that fills a block of verdicts: those of the first i parts stand there
+
+unfoldable pub Judged : (List (List ℕ) → List ℕ → ℕ) → ℕ → List ℕ → ℕ → List ℕ → Type 0
+Judged f w b i vs = take i vs ≡ scan f [] (chop w i b)
+
+module _ (f : List (List ℕ) → List ℕ → ℕ) (w : ℕ) (b : List ℕ) where
+  pub judged-start : (vs : List ℕ) → Judged f w b 0 vs
+  unfolding Judged chop scan
+  judged-start vs = refl
+
+  module _ (i : ℕ) (vs : List ℕ) (j : Judged f w b i vs) where
+    -- those taken so far, as the walk has them
+    taken-are : pick good vs (chop w i b) ≡ pick good (scan f [] (chop w i b)) (chop w i b)
+    unfolding Judged
+    taken-are = rw (← j) (sym (pick-take good i vs (chop w i b) (length-chop w i b)))
+
+    -- v is the verdict that the walk wrote
+    pub judged-turn : i < length vs → (v : ℕ) → v ≡ f (pick good vs (chop w i b)) (partAt w i b) → (vs′ : List ℕ) → vs′ ≡ set vs i v → Judged f w b (i + 1) vs′
+    unfolding Judged
+    judged-turn h v e vs′ m =
+        rw (m, add-one i, take-suc-set vs i v h, j, ← add-one i, chop-snoc w i b, scan-next f [] (chop w i b) (partAt w i b), ← taken-are, ← e)
+
+    pub judged-end : length vs ≡ i → vs ≡ scan f [] (chop w i b)
+    unfolding Judged
+    judged-end h = sym (take-all i vs (omega arith)) ∙ j
