@@ -1,0 +1,96 @@
+-- What a verdict says of its line, and the verdicts of a file of its lines: T7 and T8. Assumes nothing.
+use mathlib.Core.Path.{_≡_, refl, sym, _∙_}
+use mathlib.Core.Bool.{Bool, true, false}
+use mathlib.Core.List.{List, [], _∷_, _++_, map}
+use Prim.Native.Nat.{ℕ, zero, suc, _+_, _≤_}
+use native.Mathlib.Omega.{arith}
+use lib.ListN.{length}
+use Rattle.theory.specs.First.{Rule, _if_, first, first-append, first-clear, first-most, numbered, numberedTo, none-head, otherwise, choose}
+use Rattle.theory.specs.Same.{eqs, mem}
+use Rattle.theory.specs.Each.{Each}
+use Rattle.theory.specs.Walk.{some}
+use Rattle.theory.specs.Distinct.{distinct}
+use Rattle.theory.specs.Pick.{good, bad, pick}
+use Rattle.theory.specs.Tally.{tally, tallies}
+use Rattle.theory.specs.Scan.{scan, length-scan, each-scan, distinct-scan, some-key}
+use Rattle.columns.specs.Columns.{panOf}
+use Rattle.lines.specs.Rules.{lineRules, lineFault}
+use Rattle.lines.specs.Faultless.{Faultless, faultless}
+use Rattle.register.specs.Search.{holdsPan, heldByAnother}
+use Rattle.hgv.specs.Layout.{linesIn, linesOf}
+use Rattle.hgv.specs.Laws.{length-lines}
+use Rattle.header.specs.Header.{sender}
+use Rattle.verdicts.specs.Verdict.{ownRules, verdictRules, verdict, verdicts, fileVerdicts, taken}
+
+-- 0 only where both are
+both : (m n : ℕ) → otherwise m n ≡ 0 → (m ≡ 0) × (n ≡ 0)
+unfolding otherwise
+both zero n h = (refl, h)
+both (suc m) n h = absurd (omega arith)
+
+unchosen : (b : Bool) (n : ℕ) → choose b (suc n) 0 ≡ 0 → b ≡ false
+unfolding choose
+unchosen true n h = absurd (omega arith)
+unchosen false n h = refl
+
+module _ (rows from : List ℕ) (R : List (List ℕ)) where
+  module _ (l : List ℕ) where
+    own-numbered : numbered (ownRules rows from R l) ≡ true
+    unfolding ownRules lineRules numbered
+    own-numbered = refl
+
+    -- L11 behind L1 to L10
+    pub own-is : first (ownRules rows from R l) ≡ otherwise (lineFault rows from l) (choose (heldByAnother (panOf l) from R) 4 0)
+    unfolding ownRules lineFault first lineRules numbered
+    own-is = first-append (lineRules rows from l) ((4 if heldByAnother (panOf l) from R) ∷ []) refl
+
+    -- L12 behind them
+    pub verdict-is : (ts : List (List ℕ)) → verdict rows from R ts l ≡ otherwise (first (ownRules rows from R l)) (choose (some (holdsPan (panOf l)) ts) 1 0)
+    unfolding verdict verdictRules first
+    verdict-is ts = first-append (ownRules rows from R l) ((1 if some (holdsPan (panOf l)) ts) ∷ []) own-numbered
+
+    -- no reason is above 12
+    pub verdict-most : (ts : List (List ℕ)) → verdict rows from R ts l ≤ 12
+    unfolding verdict verdictRules ownRules lineRules numberedTo
+    verdict-most ts = first-most 12 (verdictRules rows from R ts l) refl
+
+  -- a taken line breaks none of L1 to L10, no other actor holds its PAN, and no line taken before it has that
+  module _ (ts : List (List ℕ)) (l : List ℕ) (v : verdict rows from R ts l ≡ 0) where
+    own : first (ownRules rows from R l) ≡ 0
+    own = both (first (ownRules rows from R l)) _ (sym (verdict-is l ts) ∙ v) .0
+
+    pub taken-faultless : Faultless rows from l
+    taken-faultless = faultless rows from l (both (lineFault rows from l) _ (sym (own-is l) ∙ own) .0)
+
+    pub taken-free : heldByAnother (panOf l) from R ≡ false
+    taken-free = unchosen _ 3 (both (lineFault rows from l) _ (sym (own-is l) ∙ own) .1)
+
+    pub taken-first : mem (panOf l) (map panOf ts) ≡ false
+    unfolding holdsPan
+    taken-first = sym (some-key panOf (panOf l) ts) ∙ unchosen _ 0 (both (first (ownRules rows from R l)) _ (sym (verdict-is l ts) ∙ v) .1)
+
+module _ (rows : List ℕ) (R : List (List ℕ)) (h : List ℕ) where
+  abbrev judge : List (List ℕ) → List ℕ → ℕ
+  judge = verdict rows (sender h) R
+
+  -- a verdict for each line
+  pub length-verdicts : length (fileVerdicts rows R h) ≡ linesIn h
+  unfolding fileVerdicts verdicts
+  length-verdicts = length-scan judge [] (linesOf h) ∙ length-lines h
+
+  -- T7: each line is taken or rejected
+  pub taken-rejected : tally good (fileVerdicts rows R h) + tally bad (fileVerdicts rows R h) ≡ linesIn h
+  taken-rejected = tallies (fileVerdicts rows R h) ∙ length-verdicts
+
+  pub each-faultless : Each (Faultless rows (sender h)) (taken (fileVerdicts rows R h) h)
+  unfolding taken fileVerdicts verdicts
+  each-faultless = each-scan judge (λ ts l v. taken-faultless rows (sender h) R ts l v) [] (linesOf h)
+
+  pub each-free : Each (λ l. heldByAnother (panOf l) (sender h) R ≡ false) (taken (fileVerdicts rows R h) h)
+  unfolding taken fileVerdicts verdicts
+  each-free = each-scan judge (λ ts l v. taken-free rows (sender h) R ts l v) [] (linesOf h)
+
+  -- no two taken lines have one PAN
+  pub taken-apart : distinct (map panOf (taken (fileVerdicts rows R h) h)) ≡ true
+  unfolding taken fileVerdicts verdicts distinct
+  taken-apart = distinct-scan judge panOf (λ ts l v. taken-first rows (sender h) R ts l v) [] (linesOf h) refl
