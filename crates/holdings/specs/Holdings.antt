@@ -1,0 +1,42 @@
+-- What the register then holds: the records that follow when taken lines, in file order, are applied to those held.
+-- Assumes nothing.
+use Prim.Native.Nat.{ℕ}
+use mathlib.Core.Bool.{Bool, true, false, not, cond}
+use mathlib.Core.List.{List, [], _∷_, _++_, map}
+use lib.Dec.{eqb}
+use Rattle.theory.specs.Keep.{sift}
+use Rattle.columns.specs.Columns.{panOf}
+use Rattle.lines.specs.End.{recordOf}
+use Rattle.register.specs.Search.{holdsPan, of}
+
+-- x in place of r where the test holds, else r, and what is made of those behind it
+unfoldable pub storedOn : Bool → List ℕ → List ℕ → List (List ℕ) → List (List ℕ) → List (List ℕ)
+storedOn true x r R S = x ∷ R
+storedOn false x r R S = r ∷ S
+
+-- a PAN already held is replaced in its slot, a new one takes the next free slot
+unfoldable pub stored : List ℕ → List (List ℕ) → List (List ℕ)
+stored x [] = x ∷ []
+stored x (r ∷ R) = storedOn (holdsPan (panOf x) r) x r R (stored x R)
+
+-- mode 1: one after the other
+unfoldable pub storedAll : List (List ℕ) → List (List ℕ) → List (List ℕ)
+storedAll R [] = R
+storedAll R (x ∷ xs) = storedAll (stored x R) xs
+
+-- the records of all but this actor
+unfoldable pub others : List ℕ → List (List ℕ) → List (List ℕ)
+others who R = sift (λ r. not (of who r)) R
+
+-- mode 2: first the sender's records go, the others close up in order, then the taken lines follow
+unfoldable pub replacedAll : List ℕ → List (List ℕ) → List (List ℕ) → List (List ℕ)
+replacedAll who R xs = others who R ++ xs
+
+-- 1 incremental, 2 full
+unfoldable pub isFull : ℕ → Bool
+isFull mode = eqb mode 2
+
+-- the records after the lines of this sender, received at `reception`, were taken
+unfoldable pub holdings : ℕ → List ℕ → List ℕ → List (List ℕ) → List (List ℕ) → List (List ℕ)
+holdings mode who reception R ls =
+    cond (isFull mode) (replacedAll who R (map (recordOf reception) ls)) (storedAll R (map (recordOf reception) ls))

@@ -1,0 +1,2 @@
+pub mod Holdings
+pub mod Storing

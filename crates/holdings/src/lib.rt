@@ -1,0 +1,1 @@
+// The records that follow when taken lines are applied to a register.
