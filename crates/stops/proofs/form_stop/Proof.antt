@@ -1,0 +1,54 @@
+-- One stop after the other. Assumes nothing.
+use mathlib.Core.Path.{refl, ap}
+use mathlib.Core.Bool.{not}
+use Rattle.theory.specs.First.{first, chosen}
+use Rattle.stops.specs.Stops.{formStops, formStop}
+use borrow.Author.Needs.{needs}
+use Rattle.stops.proofs.form_stop.Statement.{statement}
+use Rattle.stops.proofs.form_stop.Tie as tie
+
+returns : tie.Need-returns
+unfolding formStop formStops first
+returns c =
+    chosen _ _ _ _ _ _ (c .first12 .ensures) (ap not (c .before .is-mode .ensures)) (
+    chosen _ _ _ _ _ _ (c .before .before .first11 .ensures) (ap not (c .before .before .before .is-real-time .ensures)) (
+    chosen _ _ _ _ _ _ (c .before .before .before .before .first10 .ensures) (ap not (c .before .before .before .before .before .in-order .ensures)) (
+    chosen _ _ _ _ _ _ (c .before .before .before .before .before .before .first9 .ensures) (ap not (c .before .before .before .before .before .before .before .are-rows .ensures)) (
+    chosen _ _ _ _ _ _ (c .before .before .before .before .before .before .before .before .first8 .ensures) (ap not (c .before .before .before .before .before .before .before .before .before .has-length .ensures)) (
+    chosen _ _ _ _ _ _ (c .before .before .before .before .before .before .before .before .before .before .first7 .ensures) (ap not (c .before .before .before .before .before .before .before .before .before .before .before .has-header .ensures)) (
+    chosen _ _ _ _ _ _ (c .before .before .before .before .before .before .before .before .before .before .before .before .first6 .ensures) (ap not (c .before .before .before .before .before .before .before .before .before .before .before .before .before .has-version .ensures)) (
+    chosen _ _ _ _ _ _ (c .before .before .before .before .before .before .before .before .before .before .before .before .before .before .first5 .ensures) (c .before .before .before .before .before .before .before .before .before .before .before .before .before .before .before .is-not-full .ensures) (
+    chosen _ _ _ _ _ _ (c .before .before .before .before .before .before .before .before .before .before .before .before .before .before .before .before .first4 .ensures) (ap not (c .before .before .before .before .before .before .before .before .before .before .before .before .before .before .before .before .before .is-addressed .ensures)) (
+    chosen _ _ _ _ _ _ (c .before .before .before .before .before .before .before .before .before .before .before .before .before .before .before .before .before .before .first3 .ensures) (ap not (c .before .before .before .before .before .before .before .before .before .before .before .before .before .before .before .before .before .before .before .has-count .ensures)) (
+    chosen _ _ _ _ _ _ (c .before .before .before .before .before .before .before .before .before .before .before .before .before .before .before .before .before .before .before .before .first2 .ensures) (ap not (c .before .before .before .before .before .before .before .before .before .before .before .before .before .before .before .before .before .before .before .before .before .has-footer .ensures)) (
+    chosen _ _ _ _ _ _ (c .before .before .before .before .before .before .before .before .before .before .before .before .before .before .before .before .before .before .before .before .before .before .first .ensures) (ap not (c .before .before .before .before .before .before .before .before .before .before .before .before .before .before .before .before .before .before .before .before .before .before .before .has-frames .ensures)) refl)))))))))))
+
+pub form-stop-spec : {M : Type 1} → statement M
+form-stop-spec =
+    tie.close
+    (tie.spec
+    (λ c κs. search needs)
+    (λ c κs. search needs)
+    (λ c κs. search needs)
+    (λ c κs. search needs)
+    (λ c κs. search needs)
+    (λ c κs. search needs)
+    (λ c κs. search needs)
+    (λ c κs. search needs)
+    (λ c κs. search needs)
+    (λ c κs. search needs)
+    (λ c κs. search needs)
+    (λ c κs. search needs)
+    (λ c κs. search needs)
+    (λ c κs. search needs)
+    (λ c κs. search needs)
+    (λ c κs. search needs)
+    (λ c κs. search needs)
+    (λ c κs. search needs)
+    (λ c κs. search needs)
+    (λ c κs. search needs)
+    (λ c κs. search needs)
+    (λ c κs. search needs)
+    (λ c κs. search needs)
+    (λ c κs. search needs)
+    returns)

@@ -1,0 +1,46 @@
+-- The stops of an import that look at what was handed over, before any line is judged: 21 to 32, in their order.
+-- Assumes nothing.
+use Prim.Native.Nat.{ℕ}
+use mathlib.Core.Bool.{Bool, not, _&&_, _||_}
+use mathlib.Core.List.{List, [], _∷_}
+use lib.Dec.{eqb}
+use Rattle.theory.specs.First.{Rule, _if_, first}
+use Rattle.times.specs.Time.{realTime}
+use Rattle.issuers.specs.Rows.{rows, known}
+use Rattle.hgv.specs.Layout.{lengthHolds}
+use Rattle.hgv.specs.Body.{footerHolds, framesHold}
+use Rattle.header.specs.Header.{sender, headerHolds, versionHolds, incrementalOnly, receiverHolds, countHolds}
+use Rattle.register.specs.Register.{inOrder}
+use Rattle.holdings.specs.Holdings.{isFull}
+
+-- 1 or 2
+unfoldable pub modeHolds : ℕ → Bool
+modeHolds mode = eqb mode 1 || isFull mode
+
+-- 28: mode 2 with 220001
+unfoldable pub notFull : ℕ → List ℕ → Bool
+notFull mode h = isFull mode && incrementalOnly h
+
+-- 29 is given where this does not hold: the receiver is 000002, and an issuer row has the sender
+unfoldable pub addressed : List ℕ → List ℕ → Bool
+addressed b h = receiverHolds h && known b (sender h)
+
+unfoldable pub formStops : ℕ → List ℕ → List ℕ → List ℕ → List ℕ → List Rule
+formStops mode reception register b h =
+    (21 if not (modeHolds mode))
+    ∷ (22 if not (realTime reception))
+    ∷ (23 if not (inOrder register))
+    ∷ (24 if not (rows b))
+    ∷ (25 if not (lengthHolds h))
+    ∷ (26 if not (headerHolds h))
+    ∷ (27 if not (versionHolds h))
+    ∷ (28 if notFull mode h)
+    ∷ (29 if not (addressed b h))
+    ∷ (30 if not (countHolds h))
+    ∷ (31 if not (footerHolds h))
+    ∷ (32 if not (framesHold h))
+    ∷ []
+
+-- the first that holds, 0 where none does
+unfoldable pub formStop : ℕ → List ℕ → List ℕ → List ℕ → List ℕ → ℕ
+formStop mode reception register b h = first (formStops mode reception register b h)

@@ -1,0 +1,48 @@
+// The stops of an import that look at what was handed over, before any line is judged.
+ghost use mathlib.Core.Path.{_≡_};
+ghost use Rattle.stops.specs.Stops.{modeHolds, notFull, addressed, formStop};
+
+const INCREMENTAL: u64 = 1;
+
+const FULL: u64 = 2;
+
+fn is_mode(mode: u64) -> bool
+    ensures { λ r. ⌜ r ≡ modeHolds mode ⌝ }
+{
+    (mode == INCREMENTAL) | (mode == FULL)
+}
+
+fn is_not_full(mode: u64, hgv: &[u8]) -> bool
+    ensures { λ r. ⌜ r ≡ notFull mode (now (hgv .entry)) ⌝ }
+{
+    (mode == FULL) & header::is_incremental_only(hgv)
+}
+
+fn is_addressed(rows: &[u8], hgv: &[u8]) -> bool
+    ensures { λ r. ⌜ r ≡ addressed (now (rows .entry)) (now (hgv .entry)) ⌝ }
+{
+    let sender = texts::field(
+        hgv,
+        header::columns::SENDER_FROM,
+        header::columns::SENDER_TO,
+    );
+    header::has_receiver(hgv) & issuers::is_known(rows, sender)
+}
+
+// The first of the stops 21 to 32 that holds, or 0: from the last to the first, so that the first stands.
+pub fn form_stop(mode: u64, reception: &[u8], register: &[u8], rows: &[u8], hgv: &[u8]) -> u64
+    ensures { λ r. ⌜ r ≡ formStop mode (now (reception .entry)) (now (register .entry)) (now (rows .entry)) (now (hgv .entry)) ⌝ }
+{
+    let s32 = rules::first(!hgv::has_frames(hgv), 32, 0);
+    let s31 = rules::first(!hgv::has_footer(hgv), 31, s32);
+    let s30 = rules::first(!header::has_count(hgv), 30, s31);
+    let s29 = rules::first(!is_addressed(rows, hgv), 29, s30);
+    let s28 = rules::first(is_not_full(mode, hgv), 28, s29);
+    let s27 = rules::first(!header::has_version(hgv), 27, s28);
+    let s26 = rules::first(!header::has_header(hgv), 26, s27);
+    let s25 = rules::first(!hgv::has_length(hgv), 25, s26);
+    let s24 = rules::first(!issuers::are_rows(rows), 24, s25);
+    let s23 = rules::first(!register::in_order(register), 23, s24);
+    let s22 = rules::first(!times::is_real_time(reception), 22, s23);
+    rules::first(!is_mode(mode), 21, s22)
+}
