@@ -7,8 +7,8 @@ use Rattle.theory.specs.Outcome.{one-outcome}
 use Rattle.closing.specs.Closing.{kept, closedUp}
 
 -- the block after close_up, and its answer
-pub closed-one : (n : ℕ) (marks b r s : List ℕ) → r ≡ closedUp 128 n marks b → s ≡ closedUp 128 n marks b → r ≡ s
-closed-one n marks b r s = one-outcome
+pub closed-one : (marks b r s : List ℕ) → r ≡ closedUp 128 marks b → s ≡ closedUp 128 marks b → r ≡ s
+closed-one marks b r s = one-outcome
 
-pub count-one : (n : ℕ) (marks b : List ℕ) (r s : ℕ) → r ≡ length (kept 128 n marks b) → s ≡ length (kept 128 n marks b) → r ≡ s
-count-one n marks b r s = one-outcome
+pub count-one : (marks b : List ℕ) (r s : ℕ) → r ≡ length (kept 128 marks b) → s ≡ length (kept 128 marks b) → r ≡ s
+count-one marks b r s = one-outcome

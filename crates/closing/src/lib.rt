@@ -1,14 +1,14 @@
-// A block of slots closed up in place over a block of marks: a slot stays where its mark is 0.
+// A block of slots closed up in place over a block of marks: a slot stays where it has a mark and that is 0.
 ghost use mathlib.Core.Path.{_≡_};
 ghost use Prim.Native.Nat.{_+_, _*_, _≤_};
 ghost use lib.ListN.{length};
 ghost use Rattle.theory.specs.Count.{bump};
-ghost use Rattle.theory.specs.Parts.{partAt};
-ghost use Rattle.theory.specs.Pick.{good};
+ghost use Rattle.theory.specs.Parts.{chop, partAt};
+ghost use Rattle.theory.specs.Pick.{good, pick};
 ghost use Rattle.theory.specs.Put.{putPart};
 ghost use Rattle.theory.specs.Pad.{free};
 ghost use Rattle.theory.specs.CloseUp.{Closing, Freeing, moved};
-ghost use Rattle.closing.specs.Closing.{kept, closedUp};
+ghost use Rattle.closing.specs.Closing.{kept, closedUp, stays};
 
 const SLOT: usize = 128;
 
@@ -39,27 +39,37 @@ fn free_slot(block: &mut [u8], i: usize)
     put_slot(block, i, &slot);
 }
 
-// Slot i behind the k that stay, where its mark lets it stay; how many stay now.
-fn keep_slot(block: &mut [u8], i: usize, k: usize, mark: u8) -> usize
-    requires { ⌜ (i * 128 + 128 ≤ length (now block)) × (k ≤ i) ⌝ }
-    ensures { λ r. ⌜ (now (block .exit) ≡ moved (good mark) 128 i k (now (block .entry))) × (r ≡ bump (good mark) k) ⌝ }
+// Does slot i stay: it has a mark, and that is 0.
+fn stays(marks: &[u8], i: usize) -> bool
+    ensures { λ r. ⌜ r ≡ stays (now (marks .entry)) i ⌝ }
 {
-    if mark != 0 {
+    if marks.len() <= i {
+        return false;
+    }
+    marks[i] == 0
+}
+
+// Slot i behind the k that stay, where it stays; how many stay now.
+fn keep_slot(block: &mut [u8], i: usize, k: usize, stay: bool) -> usize
+    requires { ⌜ (i * 128 + 128 ≤ length (now block)) × (k ≤ i) ⌝ }
+    ensures { λ r. ⌜ (now (block .exit) ≡ moved stay 128 i k (now (block .entry))) × (r ≡ bump stay k) ⌝ }
+{
+    if !stay {
         return k;
     }
     move_slot(block, i, k);
     k + 1
 }
 
-// The slots that stay moved to the front; how many they are.
+// Those of the first n slots that stay moved to the front; how many they are.
 fn move_up(block: &mut [u8], marks: &[u8], n: usize) -> usize
-    requires { ⌜ (n * 128 ≤ length (now block)) × (n ≤ length (now marks)) ⌝ }
-    ensures { λ r. ⌜ Closing 128 (kept 128 n (now (marks .entry)) (now (block .entry))) (now (block .entry)) (now (block .exit)) n r ⌝ }
+    requires { ⌜ n * 128 ≤ length (now block) ⌝ }
+    ensures { λ r. ⌜ Closing 128 (pick good (now (marks .entry)) (chop 128 n (now (block .entry)))) (now (block .entry)) (now (block .exit)) n r ⌝ }
 {
     let mut k: usize = 0;
     let mut i: usize = 0;
     while i < n {
-        k = keep_slot(block, i, k, marks[i]);
+        k = keep_slot(block, i, k, stays(marks, i));
         i += 1;
     }
     k
@@ -77,11 +87,11 @@ fn free_up(block: &mut [u8], k: usize, n: usize)
     }
 }
 
-// The marked ones of the first n slots go; how many stay.
-pub fn close_up(block: &mut [u8], marks: &[u8], n: usize) -> usize
-    requires { ⌜ (n * 128 ≤ length (now block)) × (n ≤ length (now marks)) ⌝ }
-    ensures { λ r. ⌜ (now (block .exit) ≡ closedUp 128 n (now (marks .entry)) (now (block .entry))) × (r ≡ length (kept 128 n (now (marks .entry)) (now (block .entry)))) ⌝ }
+// The slots that are marked, or have no mark, go; how many stay.
+pub fn close_up(block: &mut [u8], marks: &[u8]) -> usize
+    ensures { λ r. ⌜ (now (block .exit) ≡ closedUp 128 (now (marks .entry)) (now (block .entry))) × (r ≡ length (kept 128 (now (marks .entry)) (now (block .entry)))) ⌝ }
 {
+    let n = block.len() / SLOT;
     let k = move_up(block, marks, n);
     free_up(block, k, n);
     k

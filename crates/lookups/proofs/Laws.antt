@@ -9,13 +9,13 @@ use lib.ListN.{length, getD}
 use borrow.Author.Tests.{eq-eqb, ne-eqb, eqb-true, ltb-true, ltb-false, lt-ltb, le-ltb, not-false}
 use Rattle.theory.specs.First.{None, none, more, first, first-clear, numbered}
 use Rattle.theory.specs.Truth.{same-truth}
-use Rattle.theory.specs.Parts.{chop, partAt, length-chop, part-fits}
+use Rattle.theory.specs.Parts.{partAt, part-fits}
 use Rattle.theory.specs.Walk.{some}
 use Rattle.theory.specs.Join.{getD-chop}
 use Rattle.theory.specs.Place.{place, place-most, place-some}
-use Rattle.register.specs.Register.{slotLength, records, usedIn, inOrder}
+use Rattle.register.specs.Register.{slotLength, slotsIn, slotsOf, records, usedIn, usedPart, inOrder}
 use Rattle.register.specs.Search.{holdsPan, placeOf}
-use Rattle.register.specs.Laws.{records-chop, used-fits}
+use Rattle.register.specs.Laws.{records-chop, used-fits, used-slots, slots-used}
 use Rattle.theory.specs.Keep.{sift}
 use Rattle.theory.specs.Counting.{sift-first, sift-some}
 use Rattle.lookups.specs.Lookup.{panRules, panNumber, panSlot, unlessRefused, seen, seenIn, plateRules, plateNumber, plateSlot}
@@ -28,12 +28,15 @@ none-at p n h = go (ltb p n) refl
     go true e = let l : p < n = ltb-true p n e in ne-eqb p n (λ q. omega arith)
     go false e = eq-eqb p n (omega (arith, ltb-false p n e))
 
-module _ (q : List ℕ → Bool) (b : List ℕ) (used i : ℕ) (u : used ≡ usedIn b) (f : i ≡ place q (chop slotLength used b)) where
+-- `used` is the used part, in which the first that passes was looked for
+module _ (q : List ℕ → Bool) (b used : List ℕ) (i : ℕ) (u : used ≡ usedPart b) (f : i ≡ place q (slotsOf used)) where
   place-is : i ≡ place q (records b)
-  place-is = f ∙ rw (u, ← records-chop b)
+  place-is = f ∙ rw (u, slots-used b)
 
-  pub unfound : eqb i used ≡ not (some q (records b))
-  unfound = rw (place-some q (records b), place-is, u) (none-at (place q (records b)) (usedIn b) (place-most q (records b)))
+  pub unfound : eqb i (slotsIn used) ≡ not (some q (records b))
+  unfound =
+      let e : slotsIn used ≡ usedIn b = rw u (used-slots b) in
+      rw (place-some q (records b), place-is, e) (none-at (place q (records b)) (usedIn b) (place-most q (records b)))
 
   -- where one passes, the place lies within
   pub found-fits : some q (records b) ≡ true → i * slotLength + slotLength ≤ length b
@@ -63,12 +66,9 @@ held b key h = go (first-clear (panRules b key) refl h)
     go : None (panRules b key) → some (holdsPan key) (records b) ≡ true
     go (more h₂₃ (more h₄₀ (more h₄₁ none))) = not-false (some (holdsPan key) (records b)) h₄₁
 
-pub used-room : (b : List ℕ) (used : ℕ) → used ≡ usedIn b → used * slotLength ≤ length b
-used-room b used u = rw u (used-fits b)
-
 -- the search by PAN, as the lookup has it
-module _ (b key : List ℕ) (used i : ℕ) (u : used ≡ usedIn b) (f : i ≡ placeOf key (chop slotLength used b)) where
-  pub pan-unfound : eqb i used ≡ not (some (holdsPan key) (records b))
+module _ (b key used : List ℕ) (i : ℕ) (u : used ≡ usedPart b) (f : i ≡ placeOf key (slotsOf used)) where
+  pub pan-unfound : eqb i (slotsIn used) ≡ not (some (holdsPan key) (records b))
   unfolding placeOf
   pan-unfound = unfound (holdsPan key) b used i u f
 
@@ -94,12 +94,12 @@ noticed b p n t h = go (first-clear (plateRules b p n t) refl h)
     go (more h₂₂ (more h₂₃ (more h₄₀ (more h₄₁ (more h₄₂ none))))) = sift-some (seen p n t) (records b) ∙ rw h₄₁
 
 -- the count and the search by plate, as the lookup has them
-module _ (b p n t : List ℕ) (used : ℕ) (u : used ≡ usedIn b) where
-  pub plate-count : (k : ℕ) → k ≡ length (sift (seen p n t) (chop slotLength used b)) → k ≡ length (seenIn b p n t)
+module _ (b p n t used : List ℕ) (u : used ≡ usedPart b) where
+  pub plate-count : (k : ℕ) → k ≡ length (sift (seen p n t) (slotsOf used)) → k ≡ length (seenIn b p n t)
   unfolding seenIn
-  plate-count k f = f ∙ rw (u, ← records-chop b)
+  plate-count k f = f ∙ rw (u, slots-used b)
 
-  module _ (i : ℕ) (f : i ≡ place (seen p n t) (chop slotLength used b)) (number : ℕ) (e : number ≡ plateNumber b p n t) (z : number ≡ 0) where
+  module _ (i : ℕ) (f : i ≡ place (seen p n t) (slotsOf used)) (number : ℕ) (e : number ≡ plateNumber b p n t) (z : number ≡ 0) where
     pub plate-fits : i * slotLength + slotLength ≤ length b
     plate-fits = found-fits (seen p n t) b used i u f (noticed b p n t (sym e ∙ z))
 

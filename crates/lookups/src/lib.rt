@@ -2,13 +2,13 @@
 // refusal answers with an empty part.
 ghost use mathlib.Core.Path.{_≡_};
 ghost use mathlib.Core.Bool.{_&&_};
-ghost use Prim.Native.Nat.{_*_, _≤_};
+ghost use Prim.Native.Nat.{_≤_};
 ghost use lib.ListN.{length};
-ghost use Rattle.theory.specs.Parts.{chop};
 ghost use Rattle.theory.specs.Keep.{sift};
 ghost use Rattle.theory.specs.Count.{bump};
 ghost use Rattle.theory.specs.Place.{place};
 ghost use Rattle.lines.specs.End.{active};
+ghost use Rattle.register.specs.Register.{slotsOf};
 ghost use Rattle.lookups.specs.Lookup.{panNumber, panSlot, seen, plateNumber, plateSlot};
 
 const SLOT: usize = 128;
@@ -34,11 +34,11 @@ fn one(holds: bool) -> usize
     if holds { 1 } else { 0 }
 }
 
-// How many of the first k records are seen.
-fn count_seen(b: &[u8], k: usize, p: &[u8], n: &[u8], t: &[u8]) -> usize
-    requires { ⌜ k * 128 ≤ length (now b) ⌝ }
-    ensures { λ r. ⌜ r ≡ length (sift (seen (now (p .entry)) (now (n .entry)) (now (t .entry))) (chop 128 k (now (b .entry)))) ⌝ }
+// How many of the slots are seen.
+fn count_seen(b: &[u8], p: &[u8], n: &[u8], t: &[u8]) -> usize
+    ensures { λ r. ⌜ r ≡ length (sift (seen (now (p .entry)) (now (n .entry)) (now (t .entry))) (slotsOf (now (b .entry)))) ⌝ }
 {
+    let k = b.len() / SLOT;
     let mut found: usize = 0;
     let mut i: usize = 0;
     while i < k {
@@ -48,11 +48,11 @@ fn count_seen(b: &[u8], k: usize, p: &[u8], n: &[u8], t: &[u8]) -> usize
     found
 }
 
-// The place of the first of them, or k.
-fn find_seen(b: &[u8], k: usize, p: &[u8], n: &[u8], t: &[u8]) -> usize
-    requires { ⌜ k * 128 ≤ length (now b) ⌝ }
-    ensures { λ r. ⌜ r ≡ place (seen (now (p .entry)) (now (n .entry)) (now (t .entry))) (chop 128 k (now (b .entry))) ⌝ }
+// The place of the first of them, or the number of slots.
+fn find_seen(b: &[u8], p: &[u8], n: &[u8], t: &[u8]) -> usize
+    ensures { λ r. ⌜ r ≡ place (seen (now (p .entry)) (now (n .entry)) (now (t .entry))) (slotsOf (now (b .entry))) ⌝ }
 {
+    let k = b.len() / SLOT;
     let mut i: usize = 0;
     while i < k {
         if is_seen(texts::part(b, SLOT, i), p, n, t) {
@@ -66,8 +66,8 @@ fn find_seen(b: &[u8], k: usize, p: &[u8], n: &[u8], t: &[u8]) -> usize
 fn pan_number(b: &[u8], key: &[u8]) -> u64
     ensures { λ r. ⌜ r ≡ panNumber (now (b .entry)) (now (key .entry)) ⌝ }
 {
-    let used = register::used_slots(b);
-    let v41 = rules::first(register::find(b, used, key) == used, 41, 0);
+    let used = register::used_part(b);
+    let v41 = rules::first(register::find(used, key) == used.len() / SLOT, 41, 0);
     let v40 = rules::first(!pans::is_pan(key), 40, v41);
     rules::first(!register::in_order(b), 23, v40)
 }
@@ -80,13 +80,13 @@ pub fn by_pan<'a>(b: &'a [u8], key: &[u8], number: &mut u64) -> &'a [u8]
     if answer != 0 {
         return &b[0..0];
     }
-    texts::part(b, SLOT, register::find(b, register::used_slots(b), key))
+    texts::part(b, SLOT, register::find(register::used_part(b), key))
 }
 
 fn plate_number(b: &[u8], p: &[u8], n: &[u8], t: &[u8]) -> u64
     ensures { λ r. ⌜ r ≡ plateNumber (now (b .entry)) (now (p .entry)) (now (n .entry)) (now (t .entry)) ⌝ }
 {
-    let found = count_seen(b, register::used_slots(b), p, n, t);
+    let found = count_seen(register::used_part(b), p, n, t);
     let v42 = rules::first(1 < found, 42, 0);
     let v41 = rules::first(found == 0, 41, v42);
     let v40 = rules::first(!(plates::is_plate(p) & plates::is_nationality(n)), 40, v41);
@@ -102,5 +102,5 @@ pub fn by_plate<'a>(b: &'a [u8], p: &[u8], n: &[u8], t: &[u8], number: &mut u64)
     if answer != 0 {
         return &b[0..0];
     }
-    texts::part(b, SLOT, find_seen(b, register::used_slots(b), p, n, t))
+    texts::part(b, SLOT, find_seen(register::used_part(b), p, n, t))
 }

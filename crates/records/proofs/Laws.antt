@@ -1,16 +1,23 @@
--- A record written field by field. Assumes nothing.
+-- A record written field by field, into a slot and into a slot of a register. Assumes nothing.
 use mathlib.Core.Path.{_≡_, refl, ap, _∙_}
-use mathlib.Core.List.{List, []}
-use Prim.Native.Nat.{ℕ, _+_, _-_, _≤_}
+use mathlib.Core.Bool.{Bool, true, false, _&&_}
+use mathlib.Core.List.{List, [], _++_}
+use Prim.Native.Nat.{ℕ, _+_, _-_, _*_, _/_, _≤_, _<_}
 use native.Mathlib.Omega.{arith}
-use lib.ListN.{length}
+use lib.Dec.{eqb, leb}
+use lib.ListN.{length, take, drop}
+use borrow.Author.Tests.{eqb-true, leb-true, lt-ltb, le-ltb}
+use Rattle.theory.specs.Truth.{and-split}
 use Rattle.theory.specs.Text.{bytes}
+use Rattle.theory.specs.Parts.{partAt, part-is}
+use Rattle.theory.specs.Put.{put-lent}
 use Rattle.texts.specs.Field.{field, lineEnd}
 use Rattle.texts.specs.Laws.{field-length}
 use Rattle.texts.specs.Put.{putField, written-start, written-next, written-end}
 use Rattle.columns.specs.Columns.{validTo}
 use Rattle.lines.specs.End.{endOf, recordOf}
 use Rattle.records.specs.Written.{length-end}
+use Rattle.records.specs.Slot.{fits, written, putRecord}
 
 -- a field of a line, as its reader has it
 pub wide : (from to : ℕ) (l f : List ℕ) → f ≡ field from to l → 127 ≤ length l → 1 ≤ from → to ≤ 127 → length f ≡ to + 1 - from
@@ -33,3 +40,37 @@ record-written reception l s₀ s₁ s₂ s₃ s₄ s₅ f v g n h m ef ev eg e�
     let w₄ = written-next 128 115 _ s₃ w₃ g s₄ 128 e₄ (omega arith) (omega arith) (omega arith) in
     let w₅ = written-next 128 128 _ s₄ w₄ lineEnd s₅ 129 e₅ refl (omega arith) (omega arith) in
     written-end 128 129 _ s₅ w₅ (omega arith) ∙ rw (ef, ev, eg)
+
+-- ---- a slot, and a slot of a register
+
+module _ (reception l slot : List ℕ) where
+  -- what the writer asks of the three
+  abbrev asked : Bool
+  asked = (eqb (length slot) 128 && leb 127 (length l)) && eqb (length reception) 14
+
+  pub unwritten : asked ≡ false → slot ≡ written reception l slot
+  unfolding written fits
+  unwritten h = rw h
+
+  module _ (h : asked ≡ true) where
+    pub sizes : (length slot ≡ 128) × ((127 ≤ length l) × (length reception ≡ 14))
+    sizes =
+        let s = and-split (eqb (length slot) 128 && leb 127 (length l)) (eqb (length reception) 14) h in
+        let t = and-split (eqb (length slot) 128) (leb 127 (length l)) (s .0) in
+        (eqb-true (length slot) 128 (t .0), (leb-true 127 (length l) (t .1), eqb-true (length reception) 14 (s .1)))
+
+    pub filled : (s : List ℕ) → s ≡ recordOf reception l → s ≡ written reception l slot
+    unfolding written fits
+    filled s e = e ∙ rw h
+
+module _ (i : ℕ) (reception l b : List ℕ) where
+  pub no-slot : length b / 128 ≤ i → b ≡ putRecord i reception l b
+  unfolding putRecord
+  no-slot h = rw (le-ltb i (length b / 128) h)
+
+  -- the slot lent and returned, as the borrow checker has it; y is what came back
+  pub put-slot : i < length b / 128 → (y : List ℕ) → y ≡ written reception l (take (i * 128 + 128 - i * 128) (drop (i * 128) b))
+      → take (i * 128) b ++ (y ++ drop (i * 128 + 128 - i * 128) (drop (i * 128) b)) ≡ putRecord i reception l b
+  unfolding putRecord
+  put-slot h y e =
+      put-lent 128 i (written reception l (partAt 128 i b)) y b (e ∙ ap (written reception l) (part-is 128 i b)) ∙ rw (lt-ltb i (length b / 128) h)

@@ -1,3 +1,4 @@
 pub mod Written
+pub mod Slot
 pub mod Holds
 pub mod Outcomes

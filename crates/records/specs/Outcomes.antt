@@ -3,12 +3,11 @@ use mathlib.Core.Path.{_≡_}
 use mathlib.Core.List.{List}
 use Prim.Native.Nat.{ℕ}
 use Rattle.theory.specs.Outcome.{one-outcome}
-use Rattle.theory.specs.Put.{putPart}
-use Rattle.lines.specs.End.{recordOf}
+use Rattle.records.specs.Slot.{written, putRecord}
 
 -- the slot after write_record, and the register after put_record
-pub write-one : (reception l r s : List ℕ) → r ≡ recordOf reception l → s ≡ recordOf reception l → r ≡ s
-write-one reception l r s = one-outcome
+pub write-one : (reception l slot r s : List ℕ) → r ≡ written reception l slot → s ≡ written reception l slot → r ≡ s
+write-one reception l slot r s = one-outcome
 
-pub put-one : (i : ℕ) (reception l b r s : List ℕ) → r ≡ putPart 128 i (recordOf reception l) b → s ≡ putPart 128 i (recordOf reception l) b → r ≡ s
+pub put-one : (i : ℕ) (reception l b r s : List ℕ) → r ≡ putRecord i reception l b → s ≡ putRecord i reception l b → r ≡ s
 put-one i reception l b r s = one-outcome

@@ -1,12 +1,16 @@
 // The record that a taken line becomes, written into its slot.
 ghost use mathlib.Core.Path.{_≡_};
-ghost use Prim.Native.Nat.{_+_, _*_, _≤_};
+ghost use Prim.Native.Nat.{_≤_};
 ghost use lib.ListN.{length};
-ghost use Rattle.theory.specs.Put.{putPart};
 ghost use Rattle.texts.specs.Put.{putField};
 ghost use Rattle.lines.specs.End.{endOf, recordOf};
+ghost use Rattle.records.specs.Slot.{written, putRecord};
 
 const SLOT: usize = 128;
+
+const LINE_LEAST: usize = 127;
+
+const TIME: usize = 14;
 
 const IDENTIFIER: usize = 1;
 
@@ -17,7 +21,7 @@ fn put_end(slot: &mut [u8], given: &[u8], reception: &[u8])
     requires { ⌜ (length (now slot) ≡ 128) × ((length (now given) ≡ 14) × (length (now reception) ≡ 14)) ⌝ }
     ensures { λ _. ⌜ now (slot .exit) ≡ putField 101 (endOf (now (reception .entry)) (now (given .entry))) (now (slot .entry)) ⌝ }
 {
-    if fields::is_zeros(given, 14) | times::is_earlier(reception, given) {
+    if fields::is_zeros(given, TIME) | times::is_earlier(reception, given) {
         texts::put_field(slot, columns::VALID_TO_FROM, given);
         return;
     }
@@ -25,7 +29,7 @@ fn put_end(slot: &mut [u8], given: &[u8], reception: &[u8])
 }
 
 // Every byte of the slot is written.
-pub fn write_record(slot: &mut [u8], line: &[u8], reception: &[u8])
+fn fill_slot(slot: &mut [u8], line: &[u8], reception: &[u8])
     requires { ⌜ (length (now slot) ≡ 128) × ((127 ≤ length (now line)) × (length (now reception) ≡ 14)) ⌝ }
     ensures { λ _. ⌜ now (slot .exit) ≡ recordOf (now (reception .entry)) (now (line .entry)) ⌝ }
 {
@@ -39,11 +43,23 @@ pub fn write_record(slot: &mut [u8], line: &[u8], reception: &[u8])
     texts::put_field(slot, LINE_END, b"\n");
 }
 
-// The record of a line written into slot i of a register.
-pub fn put_record(register: &mut [u8], i: usize, line: &[u8], reception: &[u8])
-    requires { ⌜ (i * 128 + 128 ≤ length (now register)) × ((127 ≤ length (now line)) × (length (now reception) ≡ 14)) ⌝ }
-    ensures { λ _. ⌜ now (register .exit) ≡ putPart 128 i (recordOf (now (reception .entry)) (now (line .entry))) (now (register .entry)) ⌝ }
+// The record of a line written into its slot; a slot, a line or a reception of another length leaves the slot as it was.
+pub fn write_record(slot: &mut [u8], line: &[u8], reception: &[u8])
+    ensures { λ _. ⌜ now (slot .exit) ≡ written (now (reception .entry)) (now (line .entry)) (now (slot .entry)) ⌝ }
 {
+    if !((slot.len() == SLOT) & (LINE_LEAST <= line.len()) & (reception.len() == TIME)) {
+        return;
+    }
+    fill_slot(slot, line, reception);
+}
+
+// The same in slot i of a register; a place that is not there leaves the register as it was.
+pub fn put_record(register: &mut [u8], i: usize, line: &[u8], reception: &[u8])
+    ensures { λ _. ⌜ now (register .exit) ≡ putRecord i (now (reception .entry)) (now (line .entry)) (now (register .entry)) ⌝ }
+{
+    if register.len() / SLOT <= i {
+        return;
+    }
     let at = i * SLOT;
     let behind = at + SLOT;
     write_record(&mut register[at..behind], line, reception);

@@ -4,9 +4,8 @@ use mathlib.Core.Bool.{Bool, true, false, not, _&&_}
 use mathlib.Core.List.{List, [], _∷_, map}
 use Prim.Native.Nat.{ℕ, _+_, _-_, _*_, _%_, _≤_, _<_}
 use native.Mathlib.Omega.{arith}
-use native.Mathlib.Nat.{div-mul-le-self}
 use lib.Dec.{eqb, leb, ltb}
-use lib.ListN.{length, drop, length-drop}
+use lib.ListN.{length, take, drop, length-drop}
 use Rattle.theory.specs.Same.{eqs, eqs-sym, mem}
 use Rattle.theory.specs.Count.{count, Counted, counted-end}
 use Rattle.theory.specs.Parts.{chop, partAt, partsFrom, parts-start, parts-step, parts-end, length-chop}
@@ -16,8 +15,12 @@ use Rattle.theory.specs.Distinct.{distinct}
 use Rattle.theory.specs.Keep.{sift, length-onto}
 use Rattle.columns.specs.Columns.{actor, panOf}
 use Rattle.register.specs.Register.{slotLength, slotsMost, slotsIn, slotsOf, usedForm, freeForm, records, usedIn, inOrder}
-use Rattle.register.specs.Laws.{used-most, records-chop}
+use Rattle.register.specs.Laws.{used-most, used-fits, records-chop, slots-front}
 use Rattle.register.specs.Search.{holdsPan, placeOf, of, countOf}
+
+-- the used slots lie within the block
+pub used-room : (b : List ℕ) (used : ℕ) → used ≡ usedIn b → used * slotLength ≤ length b
+used-room b used u = rw u (used-fits b)
 
 -- ---- an actor's records
 
@@ -31,8 +34,9 @@ module _ (who : List ℕ) where
   count-actor [] = refl
   count-actor (x ∷ R) = rw (count-actor R, eqs-sym who (actor x)) (sym (length-onto (of who x) x (sift (of who) R)))
 
-  pub count-is : (n : ℕ) (b : List ℕ) (i k : ℕ) → Counted slotLength n actor who b i k → n ≤ i → k ≡ countOf who (chop slotLength n b)
-  count-is n b i k v h = counted-end slotLength n actor who b i k v h ∙ count-actor (chop slotLength n b)
+  pub count-is : (b : List ℕ) (i k : ℕ) → Counted slotLength (slotsIn b) actor who b i k → slotsIn b ≤ i → k ≡ countOf who (slotsOf b)
+  unfolding slotsOf
+  count-is b i k v h = counted-end slotLength (slotsIn b) actor who b i k v h ∙ count-actor (chop slotLength (slotsIn b) b)
 
 -- ---- all PANs are different
 
@@ -45,7 +49,15 @@ module _ (n : ℕ) (b : List ℕ) where
   abbrev pansFrom : ℕ → List (List ℕ)
   pansFrom i = map panOf (partsFrom slotLength n i b)
 
-  pub behind-is : (from : ℕ) (pan rest : List ℕ) (r : ℕ) → rest ≡ drop (from * slotLength) b → r ≡ placeOf pan (chop slotLength (n - from) rest)
+  -- the slots from a place on, as the code lends them
+  pub between-is : (from : ℕ) → (from ≤ n) × (n * slotLength ≤ length b)
+      → slotsOf (take (n * slotLength - from * slotLength) (drop (from * slotLength) b)) ≡ partsFrom slotLength n from b
+  unfolding partsFrom
+  between-is from h =
+      let e : n * slotLength - from * slotLength ≡ (n - from) * slotLength = omega (arith, h .0) in
+      rw e (slots-front (drop (from * slotLength) b) (n - from) (simp length-drop (omega (arith, h .0, h .1))))
+
+  pub behind-is : (from : ℕ) (pan rest : List ℕ) (r : ℕ) → slotsOf rest ≡ partsFrom slotLength n from b → r ≡ placeOf pan (slotsOf rest)
       → ltb r (n - from) ≡ some (holdsPan pan) (partsFrom slotLength n from b)
   unfolding placeOf partsFrom
   behind-is from pan rest r e f =
@@ -88,14 +100,10 @@ module _ (b : List ℕ) where
   unfolding inOrder
   unsized h = rw h
 
-  -- u slots are used, and `rest` is what is behind them
-  module _ (u : ℕ) (m : u ≡ usedIn b) (rest : List ℕ) (p : rest ≡ drop (u * slotLength) b) where
-    pub rest-fits : (slotsIn b - u) * slotLength ≤ length rest
-    rest-fits = rw p (simp length-drop (omega (arith, used-most b, div-mul-le-self (length b) slotLength)))
-
-    pub order-is : sizes ≡ true → (s f d : Bool) → s ≡ each usedForm (chop slotLength u b) → f ≡ each freeForm (chop slotLength (slotsIn b - u) rest)
-        → d ≡ distinct (map panOf (chop slotLength u b)) → (s && f) && d ≡ inOrder b
-    unfolding inOrder slotsOf partsFrom
-    order-is t s f d e₁ e₂ e₃ =
-        let r : records b ≡ chop slotLength u b = records-chop b ∙ rw m in
-        rw (r, length-chop slotLength u b, drop-chop slotLength (slotsIn b) u b (omega (arith, used-most b)), t, e₁, e₂, e₃, p)
+  -- u slots are used: `front` holds them, and `rest` those behind them
+  pub order-is : (u : ℕ) → u ≡ usedIn b → sizes ≡ true → (front rest : List ℕ) → slotsOf front ≡ partsFrom slotLength u 0 b → slotsOf rest ≡ partsFrom slotLength (slotsIn b) u b
+      → (s f d : Bool) → s ≡ each usedForm (slotsOf front) → f ≡ each freeForm (slotsOf rest) → d ≡ distinct (map panOf (chop slotLength u b)) → (s && f) && d ≡ inOrder b
+  unfolding inOrder slotsOf
+  order-is u m t front rest p q s f d e₁ e₂ e₃ =
+      let r : records b ≡ chop slotLength u b = records-chop b ∙ rw m in
+      rw (r, length-chop slotLength u b, drop-chop slotLength (slotsIn b) u b (omega (arith, used-most b)), t, e₁, e₂, e₃, p, q, parts-start slotLength u b)

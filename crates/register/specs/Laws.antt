@@ -7,8 +7,8 @@ use Prim.Native.Nat.{ℕ, _-_, _*_, _%_, _≤_}
 use native.Mathlib.Omega.{arith}
 use native.Mathlib.Nat.{mul-le-mul-right, div-add-mod', div-mul-le-self, mul-div-cancel, mul-mod-left}
 use lib.Dec.{eqb, leb}
-use lib.ListN.{length, drop, replicate, length-drop}
-use lib.Seq.{drop-at}
+use lib.ListN.{length, take, drop, replicate, length-drop}
+use lib.Seq.{length-take-le, drop-at}
 use borrow.Author.Tests.{eqb-true, eq-eqb, leb-true, le-leb}
 use Rattle.theory.specs.Truth.{and-left, and-right, and-split}
 use Rattle.theory.specs.Same.{eqs}
@@ -17,14 +17,14 @@ use Rattle.theory.specs.Parts.{chop, length-chop}
 use Rattle.theory.specs.Walk.{each, each-passes, passes-each}
 use Rattle.theory.specs.Each.{Each, none, more, each-map, each-replicate}
 use Rattle.theory.specs.Distinct.{distinct}
-use Rattle.theory.specs.Join.{flat, flat-chop, each-chop, chop-split}
+use Rattle.theory.specs.Join.{flat, flat-chop, each-chop, chop-take, chop-split}
 use Rattle.theory.specs.Pad.{free, pad, chop-pad, front-pad, length-flat-pad}
 use Rattle.theory.specs.Place.{place, place-most, length-front-place, front-chop, drop-chop}
 use Rattle.texts.specs.Field.{field, lineEnd}
 use Rattle.fields.specs.Field.{null}
 use Rattle.columns.specs.Columns.{panOf}
 use Rattle.lines.specs.Rules.{recordHolds}
-use Rattle.register.specs.Register.{slotLength, slotsMost, slotsIn, slotsOf, marked, usedForm, freeForm, records, usedIn, inOrder}
+use Rattle.register.specs.Register.{slotLength, slotsMost, slotsIn, slotsOf, marked, usedForm, freeForm, records, usedIn, usedPart, inOrder}
 
 -- ---- the records of a block
 
@@ -43,6 +43,23 @@ module _ (b : List ℕ) where
 
   pub used-fits : usedIn b * slotLength ≤ length b
   used-fits = omega (arith, mul-le-mul-right slotLength used-most, div-mul-le-self (length b) slotLength)
+
+-- the slots of the bytes in front are the first slots
+pub slots-front : (b : List ℕ) (n : ℕ) → n * slotLength ≤ length b → slotsOf (take (n * slotLength) b) ≡ chop slotLength n b
+unfolding slotsOf
+slots-front b n h =
+    let e : slotsIn (take (n * slotLength) b) ≡ n = rw (length-take-le (n * slotLength) b h) (mul-div-cancel n (omega arith)) in
+    rw e (chop-take slotLength n b h)
+
+-- those of the used part are the records
+pub slots-used : (b : List ℕ) → slotsOf (usedPart b) ≡ records b
+unfolding usedPart
+slots-used b = slots-front b (usedIn b) (used-fits b) ∙ sym (records-chop b)
+
+-- and it has as many
+pub used-slots : (b : List ℕ) → slotsIn (usedPart b) ≡ usedIn b
+unfolding slotsOf
+used-slots b = sym (length-chop slotLength (slotsIn (usedPart b)) (usedPart b)) ∙ ap length (slots-used b)
 
 -- ---- free slots
 

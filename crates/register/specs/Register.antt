@@ -1,10 +1,10 @@
 -- The register: slots of 128 bytes, 0 to 8,192 of them, and what "in order" means (stop 23). Every definition takes a
 -- block of any length. Assumes nothing.
-use Prim.Native.Nat.{ℕ, _/_, _%_}
+use Prim.Native.Nat.{ℕ, _*_, _/_, _%_}
 use mathlib.Core.Bool.{Bool, _&&_}
 use mathlib.Core.List.{List, map}
 use lib.Dec.{eqb, leb}
-use lib.ListN.{length, drop}
+use lib.ListN.{length, take, drop}
 use Rattle.theory.specs.Text.{bytes}
 use Rattle.theory.specs.Same.{eqs}
 use Rattle.theory.specs.Every.{run}
@@ -27,6 +27,7 @@ slotsMost = 8192
 abbrev pub slotsIn : List ℕ → ℕ
 slotsIn b = length b / slotLength
 
+-- the slots
 unfoldable pub slotsOf : List ℕ → List (List ℕ)
 slotsOf b = chop slotLength (slotsIn b) b
 
@@ -49,6 +50,10 @@ records b = front marked (slotsOf b)
 -- how many there are
 abbrev pub usedIn : List ℕ → ℕ
 usedIn b = length (records b)
+
+-- the used slots, one behind the other
+unfoldable pub usedPart : List ℕ → List ℕ
+usedPart b = take (usedIn b * slotLength) b
 
 -- in order: length a multiple of 128 within the limit, used slots first, all PANs different, the rules hold in each
 unfoldable pub inOrder : List ℕ → Bool

@@ -1,14 +1,15 @@
 // The register: slots of 128 bytes, the used ones first, each a record. What is looked for in them, and whether they
 // are in order (stop 23).
 ghost use mathlib.Core.Path.{_≡_};
+ghost use mathlib.Core.Bool.{cond};
 ghost use mathlib.Core.List.{map};
 ghost use Prim.Native.Nat.{_*_, _≤_};
-ghost use lib.ListN.{length, drop};
+ghost use lib.ListN.{length};
 ghost use Rattle.theory.specs.Parts.{chop, partsFrom};
 ghost use Rattle.theory.specs.Walk.{each, some};
 ghost use Rattle.theory.specs.Distinct.{distinct};
 ghost use Rattle.columns.specs.Columns.{panOf};
-ghost use Rattle.register.specs.Register.{marked, usedForm, freeForm, usedIn, inOrder};
+ghost use Rattle.register.specs.Register.{slotsOf, marked, usedForm, freeForm, usedIn, usedPart, inOrder};
 ghost use Rattle.register.specs.Search.{holdsPan, placeOf, of, holdsForeign, heldByAnother, countOf};
 
 const SLOT: usize = 128;
@@ -36,17 +37,25 @@ pub fn used_slots(b: &[u8]) -> usize
     i
 }
 
+// The used slots themselves: what a search over the records looks at.
+pub fn used_part<'a>(b: &'a [u8]) -> &'a [u8]
+    ensures { λ r. ⌜ now r ≡ usedPart (now (b .entry)) ⌝ }
+{
+    let behind = used_slots(b) * SLOT;
+    &b[..behind]
+}
+
 fn holds_pan(r: &[u8], pan: &[u8]) -> bool
     ensures { λ t. ⌜ t ≡ holdsPan (now (pan .entry)) (now (r .entry)) ⌝ }
 {
     texts::has_text(r, columns::PAN_FROM, columns::PAN_TO, pan)
 }
 
-// The place of the first of the n records that has this PAN, or n.
-pub fn find(b: &[u8], n: usize, pan: &[u8]) -> usize
-    requires { ⌜ n * 128 ≤ length (now b) ⌝ }
-    ensures { λ r. ⌜ r ≡ placeOf (now (pan .entry)) (chop 128 n (now (b .entry))) ⌝ }
+// The place of the first slot that has this PAN, or the number of slots.
+pub fn find(b: &[u8], pan: &[u8]) -> usize
+    ensures { λ r. ⌜ r ≡ placeOf (now (pan .entry)) (slotsOf (now (b .entry))) ⌝ }
 {
+    let n = b.len() / SLOT;
     let mut i: usize = 0;
     while i < n {
         if holds_pan(texts::part(b, SLOT, i), pan) {
@@ -69,11 +78,11 @@ fn holds_foreign(r: &[u8], pan: &[u8], who: &[u8]) -> bool
     holds_pan(r, pan) & !is_of(r, who)
 }
 
-// Has one of the n records this PAN under another actor than `who` (L11).
-pub fn is_held_by_another(b: &[u8], n: usize, pan: &[u8], who: &[u8]) -> bool
-    requires { ⌜ n * 128 ≤ length (now b) ⌝ }
-    ensures { λ r. ⌜ r ≡ heldByAnother (now (pan .entry)) (now (who .entry)) (chop 128 n (now (b .entry))) ⌝ }
+// Has one of the slots this PAN under another actor than `who` (L11).
+pub fn is_held_by_another(b: &[u8], pan: &[u8], who: &[u8]) -> bool
+    ensures { λ r. ⌜ r ≡ heldByAnother (now (pan .entry)) (now (who .entry)) (slotsOf (now (b .entry))) ⌝ }
 {
+    let n = b.len() / SLOT;
     let mut i: usize = 0;
     while i < n {
         if holds_foreign(texts::part(b, SLOT, i), pan, who) {
@@ -84,11 +93,11 @@ pub fn is_held_by_another(b: &[u8], n: usize, pan: &[u8], who: &[u8]) -> bool
     false
 }
 
-// How many of the n records are this actor's.
-pub fn count_of(b: &[u8], n: usize, who: &[u8]) -> usize
-    requires { ⌜ n * 128 ≤ length (now b) ⌝ }
-    ensures { λ r. ⌜ r ≡ countOf (now (who .entry)) (chop 128 n (now (b .entry))) ⌝ }
+// How many of the slots are this actor's.
+pub fn count_of(b: &[u8], who: &[u8]) -> usize
+    ensures { λ r. ⌜ r ≡ countOf (now (who .entry)) (slotsOf (now (b .entry))) ⌝ }
 {
+    let n = b.len() / SLOT;
     let mut k: usize = 0;
     let mut i: usize = 0;
     while i < n {
@@ -106,33 +115,29 @@ fn is_used(s: &[u8]) -> bool
     is_marked(s) & lines::is_record(s) & texts::has_text(s, SLOT, SLOT, b"\n")
 }
 
-fn each_used(b: &[u8], n: usize) -> bool
-    requires { ⌜ n * 128 ≤ length (now b) ⌝ }
-    ensures { λ r. ⌜ r ≡ each usedForm (chop 128 n (now (b .entry))) ⌝ }
-{
-    let mut i: usize = 0;
-    while i < n {
-        if !is_used(texts::part(b, SLOT, i)) {
-            return false;
-        }
-        i += 1;
-    }
-    true
-}
-
 fn is_free(s: &[u8]) -> bool
     ensures { λ r. ⌜ r ≡ freeForm (now (s .entry)) ⌝ }
 {
     fields::is_nulls(s, SLOT)
 }
 
-fn each_free(b: &[u8], n: usize) -> bool
-    requires { ⌜ n * 128 ≤ length (now b) ⌝ }
-    ensures { λ r. ⌜ r ≡ each freeForm (chop 128 n (now (b .entry))) ⌝ }
+// Has a slot the form of a used one, or that of a free one.
+fn has_form(s: &[u8], used: bool) -> bool
+    ensures { λ r. ⌜ r ≡ cond used usedForm freeForm (now (s .entry)) ⌝ }
 {
+    if used {
+        return is_used(s);
+    }
+    is_free(s)
+}
+
+fn each_has_form(b: &[u8], used: bool) -> bool
+    ensures { λ r. ⌜ r ≡ each (cond used usedForm freeForm) (slotsOf (now (b .entry))) ⌝ }
+{
+    let n = b.len() / SLOT;
     let mut i: usize = 0;
     while i < n {
-        if !is_free(texts::part(b, SLOT, i)) {
+        if !has_form(texts::part(b, SLOT, i), used) {
             return false;
         }
         i += 1;
@@ -140,13 +145,14 @@ fn each_free(b: &[u8], n: usize) -> bool
     true
 }
 
-// The slots from place `from` on.
-fn slots_from<'a>(b: &'a [u8], from: usize) -> &'a [u8]
-    requires { ⌜ from * 128 ≤ length (now b) ⌝ }
-    ensures { λ r. ⌜ now r ≡ drop (from * 128) (now (b .entry)) ⌝ }
+// The slots from place `from` to place n.
+fn slots_between<'a>(b: &'a [u8], from: usize, n: usize) -> &'a [u8]
+    requires { ⌜ (from ≤ n) × (n * 128 ≤ length (now b)) ⌝ }
+    ensures { λ r. ⌜ slotsOf (now r) ≡ partsFrom 128 n from (now (b .entry)) ⌝ }
 {
     let at = from * SLOT;
-    &b[at..]
+    let behind = n * SLOT;
+    &b[at..behind]
 }
 
 // Has one of the slots from place `from` to place n this PAN.
@@ -154,8 +160,7 @@ fn is_behind(b: &[u8], from: usize, n: usize, pan: &[u8]) -> bool
     requires { ⌜ (from ≤ n) × (n * 128 ≤ length (now b)) ⌝ }
     ensures { λ r. ⌜ r ≡ some (holdsPan (now (pan .entry))) (partsFrom 128 n from (now (b .entry))) ⌝ }
 {
-    let left = n - from;
-    find(slots_from(b, from), left, pan) < left
+    find(slots_between(b, from, n), pan) < n - from
 }
 
 fn all_different(b: &[u8], n: usize) -> bool
@@ -182,5 +187,7 @@ pub fn in_order(b: &[u8]) -> bool
         return false;
     }
     let used = used_slots(b);
-    each_used(b, used) & each_free(slots_from(b, used), n - used) & all_different(b, used)
+    each_has_form(slots_between(b, 0, used), true)
+        & each_has_form(slots_between(b, used, n), false)
+        & all_different(b, used)
 }

@@ -73,6 +73,7 @@ module _ {A : Type 0} (p : ℕ → Bool) where
   pick-next (v ∷ u ∷ vs) [] x h = refl
   pick-next (v ∷ vs) (y ∷ xs) x h = rw (pick-next vs xs x (omega arith)) (sym (onto-append (p v) y (pick p vs xs) (onto (p (getD vs (length xs) 0)) x [])))
 
+<<<<<<< HEAD
   -- verdicts that nothing belongs to do not count
   pub pick-take : (n : ℕ) (vs : List ℕ) (xs : List A) → length xs ≡ n → pick p (take n vs) xs ≡ pick p vs xs
   unfolding pick
@@ -81,6 +82,14 @@ module _ {A : Type 0} (p : ℕ → Bool) where
   pick-take (suc n) (v ∷ vs) [] h = absurd (omega arith)
   pick-take zero (v ∷ vs) (x ∷ xs) h = absurd (omega arith)
   pick-take (suc n) (v ∷ vs) (x ∷ xs) h = rw (pick-take n vs xs (omega arith))
+=======
+  -- one more to pick from, behind the last verdict
+  pub pick-past : (vs : List ℕ) (xs : List A) (x : A) → length vs ≤ length xs → pick p vs (xs ++ x ∷ []) ≡ pick p vs xs
+  unfolding pick
+  pick-past [] xs x h = refl
+  pick-past (v ∷ vs) [] x h = absurd (omega arith)
+  pick-past (v ∷ vs) (y ∷ xs) x h = rw (pick-past vs xs x (omega arith))
+>>>>>>> 8f9c4fe
 
   pub pick-length : (vs : List ℕ) (xs : List A) → length (pick p vs xs) ≤ length xs
   unfolding pick

@@ -6,7 +6,7 @@ use mathlib.Core.Bool.{Bool, true, false, _&&_}
 use mathlib.Core.List.{List, [], _∷_, _++_, map, map-append}
 use Prim.Native.Nat.{ℕ, _+_, _*_, _≤_, _<_}
 use native.Mathlib.Omega.{arith}
-use lib.ListN.{length, getD, set, length-append, length-set}
+use lib.ListN.{length, take, drop, getD, set, length-append, length-set}
 use lib.Seq.{map-set-same}
 use Rattle.theory.specs.Text.{bytes}
 use Rattle.theory.specs.Same.{eqs, eqs-refl, mem}
@@ -24,7 +24,8 @@ use Rattle.lines.specs.Rules.{recordHolds}
 use Rattle.lines.specs.End.{recordOf}
 use Rattle.records.specs.Written.{length-record, record-first, record-last}
 use Rattle.records.specs.Holds.{record-long, record-holds}
-use Rattle.closing.specs.Closing.{closedUp, closed-records}
+use Rattle.records.specs.Slot.{putRecord, put-there}
+use Rattle.closing.specs.Closing.{closedUp, closed-front}
 use Rattle.register.specs.Register.{slotLength, slotsMost, slotsIn, marked, usedForm, records, usedIn, inOrder}
 use Rattle.register.specs.Laws.{Ordered, ordered, used-most, records-pad, order-pad}
 
@@ -45,16 +46,21 @@ module _ (reception l : List ℕ) (h : recordHolds l ≡ true) (r : realTime rec
         eqs-refl lineEnd,
       )
 
+  -- and a writer of such a line writes it where there is a slot
+  pub written-put : (i : ℕ) (b : List ℕ) → i < slotsIn b → putRecord i reception l b ≡ putPart slotLength i (recordOf reception l) b
+  written-put = put-there reception l (record-long l h) (real-length reception r)
+
 -- ---- the register after
 
--- b holds the records R and is in order
+-- b has n slots, is in order and holds the records R
 pub record Holds (n : ℕ) (R : List (List ℕ)) (b : List ℕ) : Type 0 where
   pub order : inOrder b ≡ true
   pub held : records b ≡ R
+  pub bytes : b ≡ flat (pad slotLength n R)
 
 holds : (n : ℕ) {R : List (List ℕ)} → Each (λ r. length r ≡ slotLength) R → Each (λ r. usedForm r ≡ true) R → distinct (map panOf R) ≡ true → length R ≤ n → n ≤ slotsMost
     → (b : List ℕ) → b ≡ flat (pad slotLength n R) → Holds n R b
-holds n z u d l m b e = rw e record { order = order-pad n z l u d m; held = records-pad n z l u }
+holds n z u d l m b e = record { order = rw e (order-pad n z l u d m); held = rw e (records-pad n z l u); bytes = e }
 
 module _ (b : List ℕ) (h : inOrder b ≡ true) where
   o : Ordered b
@@ -79,10 +85,13 @@ module _ (b : List ℕ) (h : inOrder b ≡ true) where
         (rw (length-append R (x ∷ [])) (omega arith)) (o .most) (putPart slotLength (usedIn b) x b)
         (ap (putPart slotLength (usedIn b) x) (o .padded) ∙ push-pad slotLength (slotsIn b) (o .sized) x k w)
 
-  -- the marked records gone and the others closed up
-  pub closed : (marks : List ℕ) → Holds (slotsIn b) (pick good marks (records b)) (closedUp slotLength (usedIn b) marks b)
+  -- the used part closed up over its marks, and the free slots behind it as they were
+  pub closed : (marks : List ℕ)
+      → Holds (slotsIn b) (pick good marks (records b)) (closedUp slotLength marks (take (usedIn b * slotLength) b) ++ drop (usedIn b * slotLength) b)
   closed marks =
       let R : List (List ℕ) = records b in
+      let k : ℕ = usedIn b * slotLength in
       holds (slotsIn b) (all-pick good marks (o .sized)) (all-pick good marks (o .used)) (distinct-pick panOf good marks R (o .apart))
-      (omega (arith, pick-length good marks R, used-most b)) (o .most) (closedUp slotLength (usedIn b) marks b)
-      (ap (closedUp slotLength (usedIn b) marks) (o .padded) ∙ closed-records slotLength (slotsIn b) (o .sized) (used-most b) marks)
+      (omega (arith, pick-length good marks R, used-most b)) (o .most) (closedUp slotLength marks (take k b) ++ drop k b)
+      (ap (λ (x : List ℕ). closedUp slotLength marks (take k x) ++ drop k x) (o .padded)
+      ∙ closed-front slotLength (omega arith) (o .sized) marks (slotsIn b) (used-most b))

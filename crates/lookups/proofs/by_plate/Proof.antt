@@ -1,20 +1,17 @@
 -- Assumes nothing.
 use borrow.Author.Needs.{needs}
-use Rattle.lookups.proofs.Laws.{used-room, plate-fits, plate-found, plate-refused}
+use Rattle.lookups.proofs.Laws.{plate-fits, plate-found, plate-refused}
 use Rattle.lookups.proofs.by_plate.Statement.{statement}
 use Rattle.lookups.proofs.by_plate.Tie as tie
 
 returns : tie.Need-returns
 returns c = (c .before .before .plate-number .ensures, plate-refused _ _ _ _ _ (c .before .before .plate-number .ensures) (c .before .if1 .taken))
 
-find-seen-requires : tie.Need-find-seen-requires
-find-seen-requires c κs = used-room _ _ (c .used-slots .ensures)
-
 part-requires : tie.Need-part-requires
-part-requires c κs = plate-fits _ _ _ _ _ (c .before .used-slots .ensures) _ (c .find-seen .ensures) _ (c .before .before .before .plate-number .ensures) (c .before .before .if1 .left)
+part-requires c κs = plate-fits _ _ _ _ _ (c .before .used-part .ensures) _ (c .find-seen .ensures) _ (c .before .before .before .plate-number .ensures) (c .before .before .if1 .left)
 
 returns-2 : tie.Need-returns-2
-returns-2 c = (c .before .before .before .before .plate-number .ensures, plate-found _ _ _ _ _ (c .before .before .used-slots .ensures) _ (c .before .find-seen .ensures) _ (c .before .before .before .before .plate-number .ensures) (c .before .before .before .if1 .left) _ (c .part .ensures))
+returns-2 c = (c .before .before .before .before .plate-number .ensures, plate-found _ _ _ _ _ (c .before .before .used-part .ensures) _ (c .before .find-seen .ensures) _ (c .before .before .before .before .plate-number .ensures) (c .before .before .before .if1 .left) _ (c .part .ensures))
 
 pub by-plate-spec : {M : Type 1} → statement M
 by-plate-spec =
@@ -26,6 +23,6 @@ by-plate-spec =
     (λ c. search needs)
     returns
     (λ c κs. search needs)
-    find-seen-requires
+    (λ c κs. search needs)
     part-requires
     returns-2)

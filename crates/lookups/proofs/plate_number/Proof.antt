@@ -5,18 +5,15 @@ use mathlib.Core.Bool.{Bool, _&&_, not}
 use Prim.Native.Nat.{ℕ}
 use lib.Dec.{eqb, ltb}
 use Rattle.theory.specs.First.{first, chosen}
-use Rattle.lookups.proofs.Laws.{used-room, plate-count}
+use Rattle.lookups.proofs.Laws.{plate-count}
 use Rattle.lookups.specs.Lookup.{plateRules, plateNumber}
 use Rattle.lookups.proofs.plate_number.Statement.{statement}
 use Rattle.lookups.proofs.plate_number.Tie as tie
 
-count-seen-requires : tie.Need-count-seen-requires
-count-seen-requires c κs = used-room _ _ (c .used-slots .ensures)
-
 returns : tie.Need-returns
 unfolding plateNumber plateRules first
 returns c =
-    let k = plate-count _ _ _ _ _ (c .before .before .before .before .before .before .before .before .before .before .used-slots .ensures) _ (c .before .before .before .before .before .before .before .before .before .count-seen .ensures) in
+    let k = plate-count _ _ _ _ _ (c .before .before .before .before .before .before .before .before .before .before .used-part .ensures) _ (c .before .before .before .before .before .before .before .before .before .count-seen .ensures) in
     chosen _ _ _ _ _ _ (c .first5 .ensures) (ap not (c .before .is-real-time .ensures)) (
     chosen _ _ _ _ _ _ (c .before .before .first4 .ensures) (ap not (c .before .before .before .in-order .ensures)) (
     chosen _ _ _ _ _ _ (c .before .before .before .before .first3 .ensures) (ap₂ (λ (x y : Bool). not (x && y)) (c .before .before .before .before .before .before .is-plate .ensures) (c .before .before .before .before .before .is-nationality .ensures)) (
@@ -28,7 +25,7 @@ plate-number-spec =
     tie.close
     (tie.spec
     (λ c κs. search needs)
-    count-seen-requires
+    (λ c κs. search needs)
     (λ c κs. search needs)
     (λ c κs. search needs)
     (λ c κs. search needs)

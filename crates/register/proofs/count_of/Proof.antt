@@ -1,26 +1,26 @@
 -- The invariant: k are the actor's before i. Assumes nothing.
-use borrow.Author.Needs.{needs}
 use Prim.Native.Nat.{_≤_, _-_}
 use native.Mathlib.Omega.{arith}
-use Rattle.theory.specs.Count.{Counted, counted-start, counted-hit, counted-miss}
-use Rattle.columns.specs.Columns.{actor}
-use Rattle.theory.specs.Parts.{part-fits}
-use Rattle.register.proofs.Laws.{of-is, count-is}
+use borrow.Author.Needs.{needs}
 use mathlib.Core.Logic.{⊎-elim}
+use Rattle.theory.specs.Count.{Counted, counted-start, counted-hit, counted-miss}
+use Rattle.theory.specs.Parts.{whole-fits}
+use Rattle.columns.specs.Columns.{actor}
+use Rattle.register.proofs.Laws.{of-is, count-is}
 use Rattle.register.proofs.count_of.Statement.{statement}
 use Rattle.register.proofs.count_of.Tie as tie
 
 abbrev Inv-loop : tie.InvT-loop
-Inv-loop b n who k₀ i₀ k i = (i ≤ n) × ((k ≤ i) × Counted 128 n actor who b i k)
+Inv-loop b who n k₀ i₀ k i = (i ≤ n) × ((k ≤ i) × Counted 128 n actor who b i k)
 
 abbrev μ-loop : tie.MeasureT-loop
-μ-loop b n who k₀ i₀ k i = n - i
+μ-loop b who n k₀ i₀ k i = n - i
 
 loop-holds : tie.Need-loop-holds Inv-loop μ-loop
 loop-holds c = (omega arith, (omega arith, counted-start _ _ _ _ _))
 
 part-requires : tie.Need-part-requires Inv-loop μ-loop
-part-requires c κs = part-fits 128 (c .before .before .before .before .args .n) (c .before .loop .i) _ (c .before .before .before .before .pre) (c .loop-test .taken)
+part-requires c κs = whole-fits 128 _ _ (c .loop-test .taken)
 
 loop-again : tie.Need-loop-again Inv-loop μ-loop
 loop-again c =
@@ -36,7 +36,7 @@ loop-again c =
     )
 
 returns : tie.Need-returns Inv-loop μ-loop
-returns c = count-is _ _ _ _ _ (c .before .loop .inv .1 .1) (c .loop-test .left)
+returns c = count-is _ _ _ _ (c .before .loop .inv .1 .1) (c .loop-test .left)
 
 pub count-of-spec : {M : Type 1} → statement M
 count-of-spec =

@@ -1,35 +1,30 @@
 -- Assumes nothing.
-use borrow.Author.Needs.{needs}
 use mathlib.Core.Path.{sym}
+use native.Mathlib.Omega.{arith}
+use borrow.Author.Needs.{needs}
 use borrow.Author.Tests.{not-true, not-false}
-use Rattle.register.proofs.Laws.{unsized, rest-fits, order-is}
-use Rattle.register.specs.Laws.{used-most, used-fits}
+use native.Mathlib.Nat.{div-mul-le-self}
+use Rattle.register.specs.Laws.{used-most}
+use Rattle.register.proofs.Laws.{used-room, unsized, order-is}
 use Rattle.register.proofs.in_order.Statement.{statement}
 use Rattle.register.proofs.in_order.Tie as tie
 
 returns : tie.Need-returns
 returns c = sym (unsized _ (not-true _ (c .if1 .taken)))
 
-each-used-requires : tie.Need-each-used-requires
-each-used-requires c κs = rw (c .used-slots .ensures) (used-fits _)
+slots-between-requires : tie.Need-slots-between-requires
+slots-between-requires c κs = (omega arith, used-room _ _ (c .used-slots .ensures))
 
-slots-from-requires : tie.Need-slots-from-requires
-slots-from-requires c κs = rw (c .before .used-slots .ensures) (used-fits _)
-
-sub-each-free : tie.Need-sub-each-free
-sub-each-free c = rw (c .before .before .used-slots .ensures) (used-most _)
-
-each-free-requires : tie.Need-each-free-requires
-each-free-requires c κs = rest-fits _ _ (c .before .before .used-slots .ensures) _ (c .slots-from .ensures)
+slots-between-requires-2 : tie.Need-slots-between-requires-2
+slots-between-requires-2 c κs = (rw (c .before .before .used-slots .ensures) (used-most _), div-mul-le-self _ 128)
 
 all-different-requires : tie.Need-all-different-requires
-all-different-requires c κs = rw (c .before .before .before .used-slots .ensures) (used-fits _)
+all-different-requires c κs = used-room _ _ (c .before .before .before .before .used-slots .ensures)
 
 returns-2 : tie.Need-returns-2
 returns-2 c =
     let x = c .before .before .before .before in
-    let u = c .before .before .before .each-used .ensures in
-    order-is _ _ (x .used-slots .ensures) _ (c .before .before .slots-from .ensures) (not-false _ (x .before .if1 .left)) _ _ _ u (c .before .each-free .ensures) (c .all-different .ensures)
+    order-is _ _ (x .before .used-slots .ensures) (not-false _ (x .before .before .if1 .left)) _ _ (x .slots-between .ensures) (c .before .before .slots-between2 .ensures) _ _ _ (c .before .before .before .each-has-form .ensures) (c .before .each-has-form2 .ensures) (c .all-different .ensures)
 
 pub in-order-spec : {M : Type 1} → statement M
 in-order-spec =
@@ -37,9 +32,9 @@ in-order-spec =
     (tie.spec
     returns
     (λ c κs. search needs)
-    each-used-requires
-    slots-from-requires
-    sub-each-free
-    each-free-requires
+    slots-between-requires
+    (λ c κs. search needs)
+    slots-between-requires-2
+    (λ c κs. search needs)
     all-different-requires
     returns-2)

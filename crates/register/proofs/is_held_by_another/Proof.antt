@@ -1,28 +1,29 @@
 -- The invariant: the first under another actor is not before i. Assumes nothing.
-use borrow.Author.Needs.{needs}
 use mathlib.Core.Path.{sym}
 use Prim.Native.Nat.{_≤_, _-_}
 use native.Mathlib.Omega.{arith}
-use Rattle.theory.specs.Parts.{part-fits}
+use borrow.Author.Needs.{needs}
+use Rattle.theory.specs.Parts.{whole-fits}
 use Rattle.theory.specs.Place.{Placing, placing-start, placing-on, some-off, none-end}
+use Rattle.register.specs.Register.{slotsOf}
 use Rattle.register.specs.Search.{holdsForeign, heldByAnother}
 use Rattle.register.proofs.is_held_by_another.Statement.{statement}
 use Rattle.register.proofs.is_held_by_another.Tie as tie
 
 abbrev Inv-loop : tie.InvT-loop
-Inv-loop b n pan who i₀ i = (i ≤ n) × Placing (holdsForeign pan who) 128 n b i
+Inv-loop b pan who n i₀ i = (i ≤ n) × Placing (holdsForeign pan who) 128 n b i
 
 abbrev μ-loop : tie.MeasureT-loop
-μ-loop b n pan who i₀ i = n - i
+μ-loop b pan who n i₀ i = n - i
 
 loop-holds : tie.Need-loop-holds Inv-loop μ-loop
 loop-holds c = (omega arith, placing-start _ _ _ _)
 
 part-requires : tie.Need-part-requires Inv-loop μ-loop
-part-requires c κs = part-fits 128 (c .before .before .before .before .before .args .n) (c .before .loop .i) _ (c .before .before .before .before .before .pre) (c .loop-test .taken)
+part-requires c κs = whole-fits 128 _ _ (c .loop-test .taken)
 
 returns : tie.Need-returns Inv-loop μ-loop
-unfolding heldByAnother
+unfolding heldByAnother slotsOf
 returns c =
     let x = c .before .before .before in
     sym (some-off _ _ _ _ _ (x .before .loop .inv .1) (x .loop-test .taken) _ (c .before .before .part .ensures) _ (c .before .holds-foreign .ensures) (c .if1 .taken))
@@ -33,7 +34,7 @@ loop-again c =
     (omega arith, placing-on _ _ _ _ _ (x .before .loop .inv .1) (x .loop-test .taken) _ (c .before .before .part .ensures) _ (c .before .holds-foreign .ensures) (c .if1 .left))
 
 returns-2 : tie.Need-returns-2 Inv-loop μ-loop
-unfolding heldByAnother
+unfolding heldByAnother slotsOf
 returns-2 c = sym (none-end _ _ _ _ _ (c .before .loop .inv .1) (c .loop-test .left))
 
 pub is-held-by-another-spec : {M : Type 1} → statement M
