@@ -1,8 +1,8 @@
 -- What a test keeps of a list, in order. Assumes nothing.
 use mathlib.Core.Path.{_≡_, refl, sym, _∙_}
-use mathlib.Core.Bool.{Bool, true, false, _&&_, _||_, true≢false}
+use mathlib.Core.Bool.{Bool, true, false, not, _&&_, _||_, true≢false}
 use mathlib.Core.List.{List, [], _∷_, _++_, map}
-use Prim.Native.Nat.{ℕ, _≤_}
+use Prim.Native.Nat.{ℕ, suc, _+_, _≤_}
 use native.Mathlib.Omega.{arith}
 use lib.ListN.{length}
 use Rattle.theory.specs.Truth.{and-none}
@@ -69,6 +69,17 @@ module _ {A : Type 0} (p : A → Bool) where
   unfolding sift
   sift-length [] = omega arith
   sift-length (x ∷ xs) = rw (length-onto (p x) x (sift p xs)) (bump-le (p x) _ _ (sift-length xs))
+
+  -- each passes or does not
+  pub sift-counts : (xs : List A) → length (sift p xs) + length (sift (λ x. not (p x)) xs) ≡ length xs
+  unfolding sift bump
+  sift-counts [] = refl
+  sift-counts (x ∷ xs) =
+      rw (length-onto (p x) x (sift p xs), length-onto (not (p x)) x (sift (λ y. not (p y)) xs)) (go (p x) _ _ (sift-counts xs))
+    where
+      go : (b : Bool) (m n : ℕ) → m + n ≡ length xs → bump b m + bump (not b) n ≡ suc (length xs)
+      go true m n h = omega arith
+      go false m n h = omega arith
 
   -- each that is kept passes
   pub sift-passes : (xs : List A) → Each (λ x. p x ≡ true) (sift p xs)

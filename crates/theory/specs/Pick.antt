@@ -9,7 +9,7 @@ use lib.Seq.{take-nil}
 use Rattle.theory.specs.Same.{eqs}
 use Rattle.theory.specs.Count.{bump, bump-le, bump-and-le, count}
 use Rattle.theory.specs.Each.{Each, none, more}
-use Rattle.theory.specs.Keep.{onto, onto-append, length-onto, map-onto, each-onto, count-onto}
+use Rattle.theory.specs.Keep.{onto, sift, onto-append, length-onto, map-onto, each-onto, count-onto}
 
 -- zero is good
 unfoldable pub good : ℕ → Bool
@@ -73,7 +73,6 @@ module _ {A : Type 0} (p : ℕ → Bool) where
   pick-next (v ∷ u ∷ vs) [] x h = refl
   pick-next (v ∷ vs) (y ∷ xs) x h = rw (pick-next vs xs x (omega arith)) (sym (onto-append (p v) y (pick p vs xs) (onto (p (getD vs (length xs) 0)) x [])))
 
-<<<<<<< HEAD
   -- verdicts that nothing belongs to do not count
   pub pick-take : (n : ℕ) (vs : List ℕ) (xs : List A) → length xs ≡ n → pick p (take n vs) xs ≡ pick p vs xs
   unfolding pick
@@ -82,14 +81,13 @@ module _ {A : Type 0} (p : ℕ → Bool) where
   pick-take (suc n) (v ∷ vs) [] h = absurd (omega arith)
   pick-take zero (v ∷ vs) (x ∷ xs) h = absurd (omega arith)
   pick-take (suc n) (v ∷ vs) (x ∷ xs) h = rw (pick-take n vs xs (omega arith))
-=======
+
   -- one more to pick from, behind the last verdict
   pub pick-past : (vs : List ℕ) (xs : List A) (x : A) → length vs ≤ length xs → pick p vs (xs ++ x ∷ []) ≡ pick p vs xs
   unfolding pick
   pick-past [] xs x h = refl
   pick-past (v ∷ vs) [] x h = absurd (omega arith)
   pick-past (v ∷ vs) (y ∷ xs) x h = rw (pick-past vs xs x (omega arith))
->>>>>>> 8f9c4fe
 
   pub pick-length : (vs : List ℕ) (xs : List A) → length (pick p vs xs) ≤ length xs
   unfolding pick
@@ -102,6 +100,12 @@ module _ {A : Type 0} (p : ℕ → Bool) where
   pick-map f [] xs = refl
   pick-map f (v ∷ vs) [] = refl
   pick-map f (v ∷ vs) (x ∷ xs) = rw (pick-map f vs xs) (sym (map-onto f (p v) x (pick p vs xs)))
+
+  -- verdicts made of the things themselves
+  pub pick-sift : (f : A → ℕ) (xs : List A) → pick p (map f xs) xs ≡ sift (λ x. p (f x)) xs
+  unfolding pick sift
+  pick-sift f [] = refl
+  pick-sift f (x ∷ xs) = rw (pick-sift f xs)
 
   -- what each has, each that is picked has
   pub all-pick : {q : A → Type 0} (vs : List ℕ) {xs : List A} → Each q xs → Each q (pick p vs xs)

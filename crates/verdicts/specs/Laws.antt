@@ -20,7 +20,7 @@ use Rattle.register.specs.Search.{holdsPan, heldByAnother}
 use Rattle.hgv.specs.Layout.{linesIn, linesOf}
 use Rattle.hgv.specs.Laws.{length-lines}
 use Rattle.header.specs.Header.{sender}
-use Rattle.verdicts.specs.Verdict.{ownRules, verdictRules, verdict, verdicts, fileVerdicts, taken}
+use Rattle.verdicts.specs.Verdict.{ownRules, verdictRules, verdict, verdictsOf, fileVerdicts, taken}
 
 -- 0 only where both are
 both : (m n : ℕ) → otherwise m n ≡ 0 → (m ≡ 0) × (n ≡ 0)
@@ -75,7 +75,7 @@ module _ (rows : List ℕ) (R : List (List ℕ)) (h : List ℕ) where
 
   -- a verdict for each line
   pub length-verdicts : length (fileVerdicts rows R h) ≡ linesIn h
-  unfolding fileVerdicts verdicts
+  unfolding fileVerdicts verdictsOf
   length-verdicts = length-scan judge [] (linesOf h) ∙ length-lines h
 
   -- T7: each line is taken or rejected
@@ -83,14 +83,14 @@ module _ (rows : List ℕ) (R : List (List ℕ)) (h : List ℕ) where
   taken-rejected = tallies (fileVerdicts rows R h) ∙ length-verdicts
 
   pub each-faultless : Each (Faultless rows (sender h)) (taken (fileVerdicts rows R h) h)
-  unfolding taken fileVerdicts verdicts
+  unfolding taken fileVerdicts verdictsOf
   each-faultless = each-scan judge (λ ts l v. taken-faultless rows (sender h) R ts l v) [] (linesOf h)
 
   pub each-free : Each (λ l. heldByAnother (panOf l) (sender h) R ≡ false) (taken (fileVerdicts rows R h) h)
-  unfolding taken fileVerdicts verdicts
+  unfolding taken fileVerdicts verdictsOf
   each-free = each-scan judge (λ ts l v. taken-free rows (sender h) R ts l v) [] (linesOf h)
 
   -- no two taken lines have one PAN
   pub taken-apart : distinct (map panOf (taken (fileVerdicts rows R h) h)) ≡ true
-  unfolding taken fileVerdicts verdicts distinct
+  unfolding taken fileVerdicts verdictsOf distinct
   taken-apart = distinct-scan judge panOf (λ ts l v. taken-first rows (sender h) R ts l v) [] (linesOf h) refl

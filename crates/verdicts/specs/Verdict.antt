@@ -25,12 +25,12 @@ unfoldable pub verdict : List ℕ → List ℕ → List (List ℕ) → List (Lis
 verdict rows from R taken l = first (verdictRules rows from R taken l)
 
 -- the verdicts of lines that this sender sent, in file order
-unfoldable pub verdicts : List ℕ → List ℕ → List (List ℕ) → List (List ℕ) → List ℕ
-verdicts rows from R ls = scan (verdict rows from R) [] ls
+unfoldable pub verdictsOf : List ℕ → List ℕ → List (List ℕ) → List (List ℕ) → List ℕ
+verdictsOf rows from R ls = scan (verdict rows from R) [] ls
 
 -- those of the file h
 unfoldable pub fileVerdicts : List ℕ → List (List ℕ) → List ℕ → List ℕ
-fileVerdicts rows R h = verdicts rows (sender h) R (linesOf h)
+fileVerdicts rows R h = verdictsOf rows (sender h) R (linesOf h)
 
 -- the lines that were taken, and those that were rejected, in file order
 unfoldable pub taken : List ℕ → List ℕ → List (List ℕ)
