@@ -1,19 +1,18 @@
 -- What the lookups learn from the search and from the count. Assumes nothing.
 use mathlib.Core.Path.{_≡_, refl, sym, ap, _∙_}
-use mathlib.Core.Bool.{Bool, true, false, not, cond}
-use mathlib.Core.List.{List, [], _∷_}
+use mathlib.Core.Bool.{Bool, true, false, not}
+use mathlib.Core.List.{List, []}
 use Prim.Native.Nat.{ℕ, _+_, _*_, _≤_, _<_}
 use native.Mathlib.Omega.{arith}
 use lib.Dec.{eqb, ltb}
 use lib.ListN.{length, getD}
-use borrow.Author.Tests.{eq-eqb, ne-eqb, eqb-true, ltb-true, ltb-false, lt-ltb, le-ltb, not-false}
+use borrow.Author.Tests.{eq-eqb, ne-eqb, ltb-true, ltb-false, not-false}
 use Rattle.theory.specs.First.{None, none, more, first, first-clear, numbered}
-use Rattle.theory.specs.Truth.{same-truth}
 use Rattle.theory.specs.Parts.{partAt, part-fits}
 use Rattle.theory.specs.Walk.{some}
 use Rattle.theory.specs.Join.{getD-chop}
 use Rattle.theory.specs.Place.{place, place-most, place-some}
-use Rattle.register.specs.Register.{slotLength, slotsIn, slotsOf, records, usedIn, usedPart, inOrder}
+use Rattle.register.specs.Register.{slotLength, slotsIn, slotsOf, records, usedIn, usedPart}
 use Rattle.register.specs.Search.{holdsPan, placeOf}
 use Rattle.register.specs.Laws.{records-chop, used-fits, used-slots, slots-used}
 use Rattle.theory.specs.Keep.{sift}

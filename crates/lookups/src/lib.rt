@@ -1,7 +1,6 @@
 // The lookups by PAN and by plate: each answers with its number and with the slot itself, the caller's own bytes; a
 // refusal answers with an empty part.
 ghost use mathlib.Core.Path.{_≡_};
-ghost use mathlib.Core.Bool.{_&&_};
 ghost use Prim.Native.Nat.{_≤_};
 ghost use lib.ListN.{length};
 ghost use Rattle.theory.specs.Keep.{sift};

@@ -1,8 +1,8 @@
 -- A slot of a register with a line's record written into it, for texts of any length. Assumes nothing.
-use mathlib.Core.Path.{_≡_, refl, _∙_}
-use mathlib.Core.Bool.{Bool, true, false, cond, _&&_}
+use mathlib.Core.Path.{_≡_}
+use mathlib.Core.Bool.{Bool, cond, _&&_}
 use mathlib.Core.List.{List}
-use Prim.Native.Nat.{ℕ, _+_, _*_, _/_, _≤_, _<_}
+use Prim.Native.Nat.{ℕ, _/_, _≤_, _<_}
 use lib.Dec.{eqb, leb, ltb}
 use lib.ListN.{length}
 use borrow.Author.Tests.{eq-eqb, le-leb, lt-ltb}
@@ -13,7 +13,7 @@ use Rattle.lines.specs.End.{recordOf}
 abbrev pub slotLength : ℕ
 slotLength = 128
 
--- a line without its last position, which no record takes over
+-- a record takes a line over up to this position
 abbrev pub lineLeast : ℕ
 lineLeast = 127
 
@@ -38,7 +38,7 @@ putRecord i reception l b = cond (ltb i (slotsIn b)) (putPart slotLength i (writ
 
 -- ---- where they fit, the record is written
 
-module _ (reception l : List ℕ) (long : 127 ≤ length l) (dated : length reception ≡ 14) where
+module _ (reception l : List ℕ) (long : lineLeast ≤ length l) (dated : length reception ≡ timeLength) where
   pub written-there : (slot : List ℕ) → length slot ≡ slotLength → written reception l slot ≡ recordOf reception l
   unfolding written fits
   written-there slot h = rw (eq-eqb (length slot) slotLength h, le-leb lineLeast (length l) long, eq-eqb (length reception) timeLength dated)

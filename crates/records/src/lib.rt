@@ -43,7 +43,8 @@ fn fill_slot(slot: &mut [u8], line: &[u8], reception: &[u8])
     texts::put_field(slot, LINE_END, b"\n");
 }
 
-// The record of a line written into its slot; a slot, a line or a reception of another length leaves the slot as it was.
+// The record of a line written into its slot; a slot or a reception of another length, or a line that is too short,
+// leaves the slot as it was.
 pub fn write_record(slot: &mut [u8], line: &[u8], reception: &[u8])
     ensures { λ _. ⌜ now (slot .exit) ≡ written (now (reception .entry)) (now (line .entry)) (now (slot .entry)) ⌝ }
 {

@@ -1,22 +1,22 @@
 -- A register in order stays in order (T9's part): what is written into a slot is a used slot, and a record replaced by one
 -- with its PAN, a record with a new PAN added, and records closed up leave a register in order, with the records that
 -- follow. Assumes nothing.
-use mathlib.Core.Path.{_≡_, refl, sym, ap, _∙_}
-use mathlib.Core.Bool.{Bool, true, false, _&&_}
+use mathlib.Core.Path.{_≡_, refl, ap, _∙_}
+use mathlib.Core.Bool.{true, false}
 use mathlib.Core.List.{List, [], _∷_, _++_, map, map-append}
-use Prim.Native.Nat.{ℕ, _+_, _*_, _≤_, _<_}
+use Prim.Native.Nat.{ℕ, _*_, _≤_, _<_}
 use native.Mathlib.Omega.{arith}
 use lib.ListN.{length, take, drop, getD, set, length-append, length-set}
 use lib.Seq.{map-set-same}
 use Rattle.theory.specs.Text.{bytes}
-use Rattle.theory.specs.Same.{eqs, eqs-refl, mem}
+use Rattle.theory.specs.Same.{eqs-refl, mem}
 use Rattle.theory.specs.Each.{Each, none, more, each-append, each-set}
 use Rattle.theory.specs.Pick.{good, pick, all-pick, pick-length}
 use Rattle.theory.specs.Distinct.{distinct, distinct-append, distinct-pick}
 use Rattle.theory.specs.Join.{flat}
 use Rattle.theory.specs.Put.{putPart}
 use Rattle.theory.specs.Pad.{pad, put-pad, push-pad}
-use Rattle.texts.specs.Field.{field, lineEnd}
+use Rattle.texts.specs.Field.{lineEnd}
 use Rattle.times.specs.Time.{realTime}
 use Rattle.times.specs.Moment.{real-length}
 use Rattle.columns.specs.Columns.{panOf}
