@@ -1,13 +1,20 @@
 -- What the functions of this crate cite. Assumes nothing.
-use mathlib.Core.Path.{_≡_, refl, _∙_}
+use mathlib.Core.Path.{_≡_, refl, sym, _∙_}
 use mathlib.Core.Bool.{Bool, true, false}
-use Prim.Native.Nat.{ℕ, _≤_}
+use mathlib.Core.List.{List}
+use Prim.Native.Nat.{ℕ, zero, suc, _≤_}
 use native.Mathlib.Omega.{arith}
 use lib.Dec.{eqb}
-use Rattle.theory.specs.First.{choose}
+use Rattle.theory.specs.First.{choose, first, otherwise, numberedTo, first-most}
 use Rattle.theory.specs.Count.{bump}
+use Rattle.theory.specs.Walk.{some}
 use Rattle.theory.specs.Pick.{good}
 use Rattle.theory.specs.Among.{good-is}
+use Rattle.columns.specs.Columns.{panOf}
+use Rattle.lines.specs.Rules.{lineRules, lineFault}
+use Rattle.register.specs.Search.{holdsPan, heldByAnother}
+use Rattle.verdicts.specs.Verdict.{ownRules, verdict}
+use Rattle.verdicts.specs.Laws.{own-is, verdict-is}
 
 -- a verdict counted
 pub counts : (v m : ℕ) → m ≡ choose (eqb v 0) 1 0 → m ≡ bump (good v) 0
@@ -22,3 +29,37 @@ pub counts-most : (b : Bool) (m : ℕ) → m ≡ choose b 1 0 → m ≤ 1
 unfolding choose
 counts-most true m e = omega arith
 counts-most false m e = omega arith
+
+-- ---- a rule behind others, as the code asks it
+
+stands : (m n : ℕ) → (m ≡ 0 → ⊥) → otherwise m n ≡ m
+unfolding otherwise
+stands zero n h = absurd (h refl)
+stands (suc m) n h = refl
+
+gives-way : (m n : ℕ) → m ≡ 0 → otherwise m n ≡ n
+unfolding otherwise
+gives-way m n h = rw h
+
+pub fault-most : (rows from l : List ℕ) (f : ℕ) → f ≡ lineFault rows from l → f ≤ 12
+unfolding lineFault lineRules numberedTo
+fault-most rows from l f e = rw e (first-most 12 (lineRules rows from l) refl)
+
+module _ (rows from : List ℕ) (R : List (List ℕ)) (l : List ℕ) where
+  -- f is what L1 to L10 say
+  module _ (f : ℕ) (e : f ≡ lineFault rows from l) where
+    pub own-line : (f ≡ 0 → ⊥) → f ≡ first (ownRules rows from R l)
+    own-line n = sym (own-is rows from R l ∙ rw (← e) (stands f _ n))
+
+    -- and h what L11 says of its PAN p
+    pub own-held : f ≡ 0 → (p : List ℕ) → p ≡ panOf l → (h : Bool) → h ≡ heldByAnother p from R → choose h 4 0 ≡ first (ownRules rows from R l)
+    own-held z p o h k = sym (own-is rows from R l ∙ rw (← e, ← o, ← k) (gives-way f (choose h 4 0) z))
+
+  -- f is what L1 to L11 say
+  module _ (ts : List (List ℕ)) (f : ℕ) (e : f ≡ first (ownRules rows from R l)) where
+    pub verdict-own : (f ≡ 0 → ⊥) → f ≡ verdict rows from R ts l
+    verdict-own n = sym (verdict-is rows from R l ts ∙ rw (← e) (stands f _ n))
+
+    -- and h what L12 says of its PAN p
+    pub verdict-named : f ≡ 0 → (p : List ℕ) → p ≡ panOf l → (h : Bool) → h ≡ some (holdsPan p) ts → choose h 1 0 ≡ verdict rows from R ts l
+    verdict-named z p o h k = sym (verdict-is rows from R l ts ∙ rw (← e, ← o, ← k) (gives-way f (choose h 1 0) z))
