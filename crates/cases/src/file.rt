@@ -37,7 +37,7 @@ fn vary_file(file: &mut [u8], f: &[u8]) {
     );
     put(
         file,
-        fields::number(texts::field(f, 1, 3)) as usize,
+        numbers::number(texts::field(f, 1, 3)) as usize,
         texts::field(f, 5, 65536),
     );
     restore(file);
@@ -59,7 +59,7 @@ fn of_body(tag: &[u8], file: &[u8], f: &[u8], room: &[u8]) -> u64 {
         return told(hgv::has_frames(file));
     }
     if texts::same(tag, b"length  ") {
-        let n = fields::number(texts::field(f, 1, 3)) as usize;
+        let n = numbers::number(texts::field(f, 1, 3)) as usize;
         return told(has_length(room, n));
     }
     crate::slots::of_slots(tag, f, room)

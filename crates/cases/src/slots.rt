@@ -133,7 +133,7 @@ fn has_slots(room: &[u8], n: usize) -> bool {
 
 pub fn of_slots(tag: &[u8], f: &[u8], room: &[u8]) -> u64 {
     if texts::same(tag, b"slots   ") {
-        return told(has_slots(room, fields::number(texts::field(f, 1, 7)) as usize));
+        return told(has_slots(room, numbers::number(texts::field(f, 1, 7)) as usize));
     }
     let mut register = [0u8; 512];
     fill_all(&mut register, texts::field(f, 1, 4));

@@ -33,7 +33,7 @@ fn vary(line: &mut [u8], f: &[u8]) {
     right_line(line, 1);
     put(
         line,
-        fields::number(texts::field(f, 1, 3)) as usize,
+        numbers::number(texts::field(f, 1, 3)) as usize,
         texts::field(f, 5, 65536),
     );
 }

@@ -1,7 +1,7 @@
 -- What one field of a line, a header or a row may hold. Text is ISO 8859-1, so '0' is 48 and ' ' is 32. Assumes nothing.
-use Prim.Native.Nat.{ℕ, _+_, _*_, _-_}
+use Prim.Native.Nat.{ℕ}
 use mathlib.Core.Bool.{Bool, _&&_, _||_}
-use mathlib.Core.List.{List, [], _∷_}
+use mathlib.Core.List.{List}
 use lib.Dec.{leb, ltb}
 use lib.ListN.{length, drop}
 use Rattle.theory.specs.Every.{all, leading}
@@ -43,11 +43,3 @@ filledTo k f = leb k (length f) && ltb 0 k && all blank (drop k f)
 -- at least one character that passes, then blanks
 unfoldable pub filled : (ℕ → Bool) → List ℕ → Bool
 filled p f = filledTo (leading p f) f
-
--- the number that digits write, behind the number n
-unfoldable pub numberAfter : ℕ → List ℕ → ℕ
-numberAfter n [] = n
-numberAfter n (x ∷ xs) = numberAfter (n * 10 + (x - 48)) xs
-
-unfoldable pub number : List ℕ → ℕ
-number = numberAfter 0

@@ -5,7 +5,7 @@ use mathlib.Core.List.{List}
 use Prim.Native.Nat.{ℕ}
 use Rattle.theory.specs.Outcome.{one-outcome}
 use Rattle.theory.specs.Every.{run, leading}
-use Rattle.fields.specs.Field.{filledTo, number}
+use Rattle.fields.specs.Field.{filledTo}
 
 -- is_digits, is_zeros, is_nulls, is_blanks, is_capitals, is_hex
 pub run-one : (p : ℕ → Bool) (n : ℕ) (f : List ℕ) (r s : Bool) → r ≡ run p n f → s ≡ run p n f → r ≡ s
@@ -17,6 +17,3 @@ leading-one p f r s = one-outcome
 
 pub filled-one : (k : ℕ) (f : List ℕ) (r s : Bool) → r ≡ filledTo k f → s ≡ filledTo k f → r ≡ s
 filled-one k f r s = one-outcome
-
-pub number-one : (f : List ℕ) (r s : ℕ) → r ≡ number f → s ≡ number f → r ≡ s
-number-one f r s = one-outcome

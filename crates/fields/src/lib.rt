@@ -1,10 +1,8 @@
 // What one field may hold. Every function takes a slice of any length: a field of another length than asked is
 // simply not in form.
 ghost use mathlib.Core.Path.{_≡_};
-ghost use Prim.Native.Nat.{_-_, _≤_};
-ghost use lib.ListN.{length};
 ghost use Rattle.theory.specs.Every.{all, run, leading};
-ghost use Rattle.fields.specs.Field.{between, digit, zero, null, blank, capital, hex, filledTo, number};
+ghost use Rattle.fields.specs.Field.{between, digit, zero, null, blank, capital, hex, filledTo};
 
 fn is_between(b: u8, lo: u8, hi: u8) -> bool
     ensures { λ r. ⌜ r ≡ between lo hi b ⌝ }
@@ -109,28 +107,4 @@ pub fn is_filled(f: &[u8], k: usize) -> bool
         return false;
     }
     (0 < k) & all_between(&f[k..], 32, 32)
-}
-
-// What a byte counts as a digit: 0 below '0'.
-fn value(b: u8) -> u64
-    ensures { λ r. ⌜ (r ≡ b - 48) × (r ≤ 207) ⌝ }
-{
-    if b < 48 {
-        return 0;
-    }
-    (b - 48) as u64
-}
-
-// The number that digits write. The longest number in the files, a count, has 15.
-pub fn number(f: &[u8]) -> u64
-    requires { ⌜ length (now f) ≤ 15 ⌝ }
-    ensures { λ r. ⌜ r ≡ number (now (f .entry)) ⌝ }
-{
-    let mut n: u64 = 0;
-    let mut i: usize = 0;
-    while i < f.len() {
-        n = n * 10 + value(f[i]);
-        i += 1;
-    }
-    n
 }

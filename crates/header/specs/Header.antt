@@ -8,7 +8,8 @@ use Rattle.theory.specs.Text.{bytes}
 use Rattle.theory.specs.Same.{eqs}
 use Rattle.theory.specs.Every.{run}
 use Rattle.texts.specs.Field.{field, lineEnd, listed}
-use Rattle.fields.specs.Field.{digit, zero, number}
+use Rattle.fields.specs.Field.{digit, zero}
+use Rattle.numbers.specs.Number.{number}
 use Rattle.times.specs.Time.{realTime, realDate}
 use Rattle.hgv.specs.Layout.{linesIn}
 

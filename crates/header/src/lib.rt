@@ -30,7 +30,7 @@ pub fn is_sequence(f: &[u8], from: &[u8]) -> bool
     ensures { λ r. ⌜ r ≡ sequence (now (from .entry)) (now (f .entry)) ⌝ }
 {
     let digits = texts::field(f, columns::NUMBER_FROM, columns::NUMBER_TO);
-    let number = fields::number(digits);
+    let number = numbers::number(digits);
     (f.len() == SEQUENCE)
         & texts::has_text(f, columns::FILE_FROM, columns::FILE_TO, b"HGV")
         & texts::has_text(f, columns::OWNER_FROM, columns::OWNER_TO, from)
@@ -103,6 +103,6 @@ pub fn has_receiver(h: &[u8]) -> bool
 pub fn has_count(h: &[u8]) -> bool
     ensures { λ r. ⌜ r ≡ countHolds (now (h .entry)) ⌝ }
 {
-    fields::number(texts::field(h, columns::COUNT_FROM, columns::COUNT_TO))
+    numbers::number(texts::field(h, columns::COUNT_FROM, columns::COUNT_TO))
         == hgv::lines_in(h) as u64
 }

@@ -42,9 +42,9 @@ fn is_row(r: &[u8]) -> bool
     let bin = texts::field(r, BIN_FROM, BIN_TO);
     let given = fields::digits_in(bin);
     let bin_length = texts::field(r, BIN_LENGTH_FROM, BIN_LENGTH_TO);
-    let used = fields::number(bin_length);
+    let used = numbers::number(bin_length);
     let pan_length = texts::field(r, PAN_LENGTH_FROM, PAN_LENGTH_TO);
-    let digits = fields::number(pan_length);
+    let digits = numbers::number(pan_length);
     (6 <= given)
         & fields::is_filled(bin, given)
         & fields::is_digits(bin_length, 2)
@@ -112,7 +112,7 @@ fn head<'a>(s: &'a [u8], n: u64) -> &'a [u8]
 fn is_beginning(sender: &[u8], pan: &[u8], r: &[u8]) -> bool
     ensures { λ t. ⌜ t ≡ beginning (now (sender .entry)) (now (pan .entry)) (now (r .entry)) ⌝ }
 {
-    let used = fields::number(texts::field(r, BIN_LENGTH_FROM, BIN_LENGTH_TO));
+    let used = numbers::number(texts::field(r, BIN_LENGTH_FROM, BIN_LENGTH_TO));
     let bin = texts::field(r, BIN_FROM, BIN_TO);
     is_sent_by(sender, r) & texts::same(head(bin, used), head(pan, used))
 }
@@ -121,7 +121,7 @@ fn is_beginning(sender: &[u8], pan: &[u8], r: &[u8]) -> bool
 fn is_fitting(r: &[u8], begins: bool, digits: usize) -> bool
     ensures { λ t. ⌜ t ≡ begins && eqb (panLength (now (r .entry))) digits ⌝ }
 {
-    begins & (fields::number(texts::field(r, PAN_LENGTH_FROM, PAN_LENGTH_TO)) == digits as u64)
+    begins & (numbers::number(texts::field(r, PAN_LENGTH_FROM, PAN_LENGTH_TO)) == digits as u64)
 }
 
 pub fn issued_to(b: &[u8], sender: &[u8], pan: &[u8]) -> Issued

@@ -8,7 +8,7 @@ use Rattle.theory.specs.Text.{bytes}
 use Rattle.theory.specs.Same.{eqs}
 use Rattle.theory.specs.Every.{all, run, leading}
 use Rattle.texts.specs.Field.{field}
-use Rattle.fields.specs.Field.{number, numberAfter}
+use Rattle.numbers.specs.Number.{number, numberAfter}
 use Rattle.times.specs.Time.{daysIn, realTime}
 use Rattle.times.specs.Order.{earlier}
 use Rattle.pans.specs.Pan.{doubled, counted, luhnSum, luhn}

@@ -91,7 +91,7 @@ fn is_separated(p: u64, q: u64, k: usize) -> bool
 pub fn is_separator(f: &[u8], k: usize) -> bool
     ensures { λ r. ⌜ r ≡ separator (now (f .entry)) k ⌝ }
 {
-    let p = fields::number(texts::field(f, 1, 1));
-    let q = fields::number(texts::field(f, 2, 2));
+    let p = numbers::number(texts::field(f, 1, 1));
+    let q = numbers::number(texts::field(f, 2, 2));
     fields::is_digits(f, 2) & is_separated(p, q, k)
 }

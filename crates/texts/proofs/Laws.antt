@@ -1,17 +1,15 @@
 -- Laws of the definitions of specs/, in the form that the functions use. Assumes nothing.
 use mathlib.Core.Path.{_≡_, refl, sym, _∙_}
 use mathlib.Core.Bool.{Bool, true, false, _||_}
-use mathlib.Core.List.{List, _++_}
+use mathlib.Core.List.{List}
 use Prim.Native.Nat.{ℕ, _<_, _≤_, _+_, _-_, _/_}
 use native.Mathlib.Omega.{arith}
 use native.Mathlib.Numerals.{add-one}
-use native.Mathlib.Nat.{add-sub-cancel-left}
 use lib.ListN.{length, take, drop, getD, set, length-drop, drop-of-length-le}
-use lib.Seq.{take-all, take-nil, take-suc, take-suc-set, drop-drop}
+use lib.Seq.{take-all, take-nil, take-suc, take-suc-set}
 use Rattle.theory.specs.Same.{eqs, mem}
 use Rattle.theory.specs.Parts.{chop, partAt, partsFrom, parts-start, parts-step, parts-end}
 use Rattle.texts.specs.Field.{field, listed}
-use Rattle.texts.specs.Put.{putField}
 
 module _ (text : List ℕ) (from to : ℕ) where
   pub field-none : length text < from → take 0 (drop 0 text) ≡ field from to text
@@ -72,9 +70,3 @@ module _ (to from : List ℕ) where
     pub copied-end : length to ≤ i → length from ≤ i → to ≡ from
     unfolding Copied
     copied-end h k = sym (take-all i to h) ∙ v ∙ take-all i from k
-
--- a field lent and returned, as the borrow checker has it; g is what came back
-pub put-lent : (from : ℕ) (f g text : List ℕ) → g ≡ f
-    → take (from - 1) text ++ (g ++ drop (from - 1 + length f - (from - 1)) (drop (from - 1) text)) ≡ putField from f text
-unfolding putField
-put-lent from f g text e = rw (add-sub-cancel-left (from - 1) (length f), e, drop-drop)

@@ -3,8 +3,9 @@ use mathlib.Core.Path.{_≡_, refl, sym, ap, _∙_}
 use mathlib.Core.List.{List, [], _++_, append-assoc}
 use Prim.Native.Nat.{ℕ, _+_, _-_, _≤_}
 use native.Mathlib.Omega.{arith}
+use native.Mathlib.Nat.{add-sub-cancel-left}
 use lib.ListN.{length, take, drop, length-append, length-take, length-drop}
-use lib.Seq.{length-take-le, take-all, take-at}
+use lib.Seq.{length-take-le, take-all, take-at, drop-drop}
 
 -- the text with f over its bytes from position `from` on, and all else as it was
 unfoldable pub putField : ℕ → List ℕ → List ℕ → List ℕ
@@ -12,6 +13,12 @@ putField from f text = take (from - 1) text ++ (f ++ drop (from - 1 + length f) 
 
 pub put-ap : (from : ℕ) {f g : List ℕ} (text : List ℕ) → f ≡ g → putField from f text ≡ putField from g text
 put-ap from text e = ap (λ (x : List ℕ). putField from x text) e
+
+-- k bytes lent and returned, as the borrow checker has them; g is what came back
+pub put-lent : (from k : ℕ) (f g text : List ℕ) → g ≡ f → length f ≡ k
+    → take (from - 1) text ++ (g ++ drop (from - 1 + k - (from - 1)) (drop (from - 1) text)) ≡ putField from f text
+unfolding putField
+put-lent from k f g text e l = rw (add-sub-cancel-left (from - 1) k, e, l, drop-drop)
 
 -- of a text of n bytes those before position p are written, and are w
 pub record Written (n p : ℕ) (w text : List ℕ) : Type 0 where

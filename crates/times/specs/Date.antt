@@ -12,7 +12,8 @@ use Rattle.theory.specs.Text.{bytes}
 use Rattle.theory.specs.Truth.{and-left, same-truth}
 use Rattle.theory.specs.Every.{all, run, all-append}
 use Rattle.texts.specs.Field.{field}
-use Rattle.fields.specs.Field.{digit, number, numberAfter}
+use Rattle.fields.specs.Field.{digit}
+use Rattle.numbers.specs.Number.{number, numberAfter}
 use Rattle.times.specs.Time.{year, month, day, hour, minute, second, realDay, realClock, realMoment, realTime, realDate}
 use Rattle.times.specs.Moment.{real-all, real-numbers}
 

@@ -11,7 +11,8 @@ use borrow.Author.Tests.{eqb-true, ltb-true, ltb-false, eq-eqb, lt-ltb, le-ltb}
 use Rattle.theory.specs.Truth.{and-left, and-right, or-left, or-right}
 use Rattle.theory.specs.Every.{all}
 use Rattle.texts.specs.Field.{field}
-use Rattle.fields.specs.Field.{digit, number, numberAfter}
+use Rattle.fields.specs.Field.{digit}
+use Rattle.numbers.specs.Number.{number, numberAfter}
 use Rattle.times.specs.Time.{year, month, day, hour, minute, second, realTime}
 use Rattle.times.specs.Moment.{within, real-length, real-all, real-moment}
 use Rattle.times.specs.Calendar.{secs, stamp, later}

@@ -7,7 +7,8 @@ use lib.Dec.{leb, eqb}
 use Rattle.theory.specs.Text.{bytes}
 use Rattle.theory.specs.Every.{run}
 use Rattle.texts.specs.Field.{field}
-use Rattle.fields.specs.Field.{between, digit, number}
+use Rattle.fields.specs.Field.{between, digit}
+use Rattle.numbers.specs.Number.{number}
 
 -- a leap year of the Gregorian calendar
 abbrev pub leap : ℕ → Bool

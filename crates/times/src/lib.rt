@@ -2,7 +2,7 @@
 ghost use mathlib.Core.Path.{_≡_};
 ghost use Prim.Native.Nat.{_+_, _≤_};
 ghost use Rattle.texts.specs.Field.{field};
-ghost use Rattle.fields.specs.Field.{number};
+ghost use Rattle.numbers.specs.Number.{number};
 ghost use Rattle.times.specs.Time.{leap, daysIn, year, month, day, hour, minute, second, realDay, realClock, realTime, realDate};
 ghost use Rattle.times.specs.Order.{earlier};
 
@@ -35,7 +35,7 @@ fn number_at(t: &[u8], from: usize, to: usize) -> u64
     requires { ⌜ (1 ≤ from) × ((from ≤ to) × (to ≤ from + 14)) ⌝ }
     ensures { λ r. ⌜ r ≡ number (field from to (now (t .entry))) ⌝ }
 {
-    fields::number(texts::field(t, from, to))
+    numbers::number(texts::field(t, from, to))
 }
 
 fn has_day(t: &[u8]) -> bool

@@ -7,7 +7,8 @@ use lib.Dec.{eqb, leb, ltb}
 use Rattle.theory.specs.Text.{bytes}
 use Rattle.theory.specs.Every.{run}
 use Rattle.texts.specs.Field.{listed}
-use Rattle.fields.specs.Field.{digit, zero, blank, number}
+use Rattle.fields.specs.Field.{digit, zero, blank}
+use Rattle.numbers.specs.Number.{number}
 use Rattle.times.specs.Time.{realTime}
 use Rattle.plates.specs.Plate.{plateCharacters, separator}
 use Rattle.columns.specs.Columns.{shadow, plateOf, tariff, class, axles, emission, fuel, chargeable, productRest, engine, co2, weight, validTo, separatorOf, filler}

@@ -64,7 +64,7 @@ fn has_engine(l: &[u8]) -> bool
     ensures { λ r. ⌜ r ≡ engineHolds (now (l .entry)) ⌝ }
 {
     let engine = texts::field(l, columns::ENGINE_FROM, columns::ENGINE_TO);
-    let n = fields::number(engine);
+    let n = numbers::number(engine);
     fields::is_digits(engine, 3) & ((n <= 52) | (n == 255))
 }
 
@@ -107,7 +107,7 @@ fn has_light_weight(l: &[u8]) -> bool
     ensures { λ r. ⌜ r ≡ weightHolds (now (l .entry)) ⌝ }
 {
     let tariff = texts::field(l, columns::TARIFF_FROM, columns::TARIFF_TO);
-    let weight = fields::number(texts::field(l, columns::WEIGHT_FROM, columns::WEIGHT_TO));
+    let weight = numbers::number(texts::field(l, columns::WEIGHT_FROM, columns::WEIGHT_TO));
     !(texts::listed(tariff, 2, b"1222") & (LIGHT_MOST < weight))
 }
 

@@ -1,11 +1,12 @@
 -- Assumes nothing.
 use borrow.Author.Needs.{needs}
-use Rattle.texts.proofs.Laws.{put-lent}
+use mathlib.Core.Path.{refl}
+use Rattle.texts.specs.Put.{put-lent}
 use Rattle.texts.proofs.put_field.Statement.{statement}
 use Rattle.texts.proofs.put_field.Tie as tie
 
 returns : tie.Need-returns
-returns c = put-lent _ _ _ _ (c .before .before .copy .ensures)
+returns c = put-lent _ _ _ _ _ (c .before .before .copy .ensures) refl
 
 pub put-field-spec : {M : Type 1} → statement M
 put-field-spec =

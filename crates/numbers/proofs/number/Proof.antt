@@ -3,9 +3,9 @@ use borrow.Author.Needs.{needs}
 use Prim.Native.Nat.{_-_}
 use native.Mathlib.Omega.{arith}
 use lib.ListN.{length}
-use Rattle.fields.proofs.Laws.{Numbering, number-start, number-turn, number-end, number-room}
-use Rattle.fields.proofs.number.Statement.{statement}
-use Rattle.fields.proofs.number.Tie as tie
+use Rattle.numbers.proofs.Laws.{Numbering, number-start, number-turn, number-end, number-room}
+use Rattle.numbers.proofs.number.Statement.{statement}
+use Rattle.numbers.proofs.number.Tie as tie
 
 abbrev Inv-loop : tie.InvT-loop
 Inv-loop f n₀ i₀ n i = Numbering f n i
