@@ -1,0 +1,3 @@
+pub mod Confirmation
+pub mod Laws
+pub mod Outcomes
