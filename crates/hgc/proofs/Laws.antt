@@ -1,12 +1,11 @@
 -- The confirmation written part by part. Assumes nothing.
-use mathlib.Core.Path.{_≡_, refl, sym, ap, _∙_}
-use mathlib.Core.Bool.{Bool, true, false}
-use mathlib.Core.List.{List, [], _∷_, _++_, append-nil, append-assoc}
+use mathlib.Core.Path.{_≡_, refl, ap, _∙_}
+use mathlib.Core.Bool.{true}
+use mathlib.Core.List.{List, [], _++_, append-nil}
 use Prim.Native.Nat.{ℕ, zero, suc, _+_, _*_, _-_, _≤_, _<_}
 use native.Mathlib.Omega.{arith}
 use lib.ListN.{length, drop, getD, length-append}
 use Rattle.theory.specs.Text.{bytes}
-use Rattle.theory.specs.Each.{Each}
 use Rattle.theory.specs.Keep.{onto}
 use Rattle.theory.specs.Parts.{chop, partAt, length-chop, length-part, part-fits}
 use Rattle.theory.specs.Pick.{good, bad}

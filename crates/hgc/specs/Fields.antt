@@ -1,5 +1,5 @@
 -- What stands in the confirmation, field by field, for those who read one. Assumes nothing.
-use mathlib.Core.Path.{_≡_, refl, ap, _∙_}
+use mathlib.Core.Path.{_≡_, refl, _∙_}
 use mathlib.Core.Bool.{true}
 use mathlib.Core.List.{List, [], _∷_, _++_, map}
 use Prim.Native.Nat.{ℕ, _+_, _-_, _≤_}
@@ -9,7 +9,7 @@ use Rattle.theory.specs.Text.{bytes}
 use Rattle.theory.specs.Same.{eqs}
 use Rattle.theory.specs.Every.{all, run}
 use Rattle.theory.specs.Each.{Each, none, more}
-use Rattle.theory.specs.Keep.{onto, map-onto}
+use Rattle.theory.specs.Keep.{map-onto}
 use Rattle.theory.specs.Pick.{bad, pick}
 use Rattle.texts.specs.Field.{field, lineEnd}
 use Rattle.texts.specs.Laws.{field-length, field-before, field-behind, field-all, field-last}
@@ -20,7 +20,7 @@ use Rattle.hgv.specs.Layout.{lineLength}
 use Rattle.hgv.specs.Body.{footerForm}
 use Rattle.header.specs.Header.{sender, listSequence}
 use Rattle.hgc.specs.Confirmation.{zeros, outcome, names, counts, head, answer, answers, foot}
-use Rattle.hgc.specs.Laws.{length-zeros, length-outcome, length-names, length-counts}
+use Rattle.hgc.specs.Laws.{length-zeros, length-outcome, length-names}
 
 -- ---- the header
 

@@ -1,18 +1,16 @@
 -- How long the parts of the confirmation are, and the answers line by line. Assumes nothing.
 use mathlib.Core.Path.{_≡_, refl, sym, ap, _∙_}
-use mathlib.Core.Bool.{Bool, true}
+use mathlib.Core.Bool.{true}
 use mathlib.Core.List.{List, [], _∷_, _++_}
 use Prim.Native.Nat.{ℕ, zero, suc, _+_, _*_, _≤_, _<_}
 use native.Mathlib.Omega.{arith}
-use lib.ListN.{length, getD, replicate, length-append, length-replicate}
-use Rattle.theory.specs.Text.{bytes}
+use lib.ListN.{length, getD, length-append, length-replicate}
 use Rattle.theory.specs.Count.{bump-and-le}
 use Rattle.theory.specs.Each.{Each, none, more}
 use Rattle.theory.specs.Keep.{onto, onto-append, length-onto, each-onto}
 use Rattle.theory.specs.Pick.{good, bad}
 use Rattle.theory.specs.Tally.{tally}
 use Rattle.theory.specs.Join.{flat, length-flat}
-use Rattle.texts.specs.Field.{field, lineEnd}
 use Rattle.texts.specs.Laws.{field-length}
 use Rattle.numbers.specs.Number.{decimal}
 use Rattle.numbers.specs.Laws.{length-decimal}

@@ -7,8 +7,10 @@ use Rattle.hgc.proofs.put_counts.Tie as tie
 returns : tie.Need-returns
 returns c =
     let e = c .before .before .before .before .before .before .before .before .before .before .before .before .before .before .before in
-    counts-written _ _ _ _ _ _ _ _ _ (e .before .before .before .before .before .before .before .before .before .before .before .before .pre) (e .before .before .before .before .before .before .before .before .before .put-number .ensures) (e .before .before .before .before .before .put-number2 .ensures) (e .put-field .ensures)
-    (c .before .before .before .before .before .before .before .before .before .before .before .put-zeros .ensures) (c .before .before .before .before .before .before .before .put-outcome .ensures) (c .before .before .put-field2 .ensures)
+    let n = e .before .before .before .before .before in
+    counts-written _ _ _ _ _ _ _ _ _ (n .before .before .before .before .before .before .before .pre) (n .before .before .before .before .put-number .ensures) (n .put-number2 .ensures)
+    (e .put-field .ensures) (c .before .before .before .before .before .before .before .before .before .before .before .put-zeros .ensures) (c .before .before .before .before .before .before .before .put-outcome .ensures)
+    (c .before .before .put-field2 .ensures)
 
 pub put-counts-spec : {M : Type 1} → statement M
 put-counts-spec =

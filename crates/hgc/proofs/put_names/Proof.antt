@@ -21,7 +21,8 @@ returns c =
     let f = e .before .before .before .before .before .before .before .before .before .before .before .before in
     let p = f .before .before .before .before .before .pre in
     names-written _ _ _ _ _ _ _ _ _ _ (p .0) (p .1 .0) (p .1 .1) (f .before .field .ensures) (f .field2 .ensures)
-    (e .before .before .before .before .before .before .before .before .before .put-field .ensures) (e .before .before .before .before .put-field2 .ensures) (e .put-field3 .ensures) (c .before .before .before .before .before .before .put-field4 .ensures) (c .before .before .put-field5 .ensures)
+    (e .before .before .before .before .before .before .before .before .before .put-field .ensures) (e .before .before .before .before .put-field2 .ensures) (e .put-field3 .ensures)
+    (c .before .before .before .before .before .before .put-field4 .ensures) (c .before .before .put-field5 .ensures)
 
 pub put-names-spec : {M : Type 1} → statement M
 put-names-spec =

@@ -10,10 +10,15 @@ put-names-requires : tie.Need-put-names-requires
 put-names-requires c κs = let p = c .before .before .before .before .before .pre in (omega arith, (p .0, omega (arith, length-least _ (p .1 .0))))
 
 put-answers-requires : tie.Need-put-answers-requires
-put-answers-requires c κs = let p = c .before .before .before .before .before .before .before .before .before .before .before .before .before .before .pre in (lines-fit _ _ _ (c .body .ensures) (p .1 .1 .0), omega arith)
+put-answers-requires c κs =
+    let p = c .before .before .before .before .before .before .before .before .before .before .before .before .before .before .pre in
+    (lines-fit _ _ _ (c .body .ensures) (p .1 .1 .0), omega arith)
 
 put-foot-requires : tie.Need-put-foot-requires
-put-foot-requires c κs = foot-fits _ _ _ _ _ _ (c .before .before .before .before .body .ensures) (c .before .before .before .put-answers .ensures) (c .before .before .before .before .before .before .before .before .before .before .before .before .before .before .before .before .before .before .pre .1 .1 .0) (omega arith)
+put-foot-requires c κs =
+    let b = c .before .before .before .before in
+    let p = b .before .before .before .before .before .before .before .before .before .before .before .before .before .before .pre in
+    foot-fits _ _ _ _ _ _ (b .body .ensures) (c .before .before .before .put-answers .ensures) (p .1 .1 .0) (omega arith)
 
 returns : tie.Need-returns
 returns c =
