@@ -1,4 +1,5 @@
 pub mod Field
 pub mod Laws
 pub mod Put
+pub mod Laid
 pub mod Outcomes

@@ -1,0 +1,188 @@
+-- The confirmation written part by part. Assumes nothing.
+use mathlib.Core.Path.{_≡_, refl, ap, _∙_}
+use mathlib.Core.Bool.{true}
+use mathlib.Core.List.{List, [], _++_, append-nil}
+use Prim.Native.Nat.{ℕ, zero, suc, _+_, _*_, _-_, _≤_, _<_}
+use native.Mathlib.Omega.{arith}
+use lib.ListN.{length, drop, getD, length-append}
+use Rattle.theory.specs.Text.{bytes}
+use Rattle.theory.specs.Keep.{onto}
+use Rattle.theory.specs.Parts.{chop, partAt, length-chop, length-part, part-fits}
+use Rattle.theory.specs.Pick.{good, bad}
+use Rattle.theory.specs.Tally.{tally}
+use Rattle.theory.specs.Join.{flat, flat-append, chop-snoc, each-chop}
+use Rattle.texts.specs.Field.{field, lineEnd}
+use Rattle.texts.specs.Laws.{field-length}
+use Rattle.texts.specs.Put.{putField}
+use Rattle.texts.specs.Laid.{Laid, laid, laid-start, laid-join, laid-next, laid-front, laid-length}
+use Rattle.numbers.specs.Number.{decimal}
+use Rattle.numbers.specs.Laws.{length-decimal}
+use Rattle.columns.specs.Columns.{text}
+use Rattle.hgv.specs.Layout.{linesIn, lengthHolds, body, linesOf}
+use Rattle.hgv.specs.Laws.{lines-room, each-line, length-least}
+use Rattle.header.specs.Header.{sender, listSequence}
+use Rattle.hgc.specs.Confirmation.{confirmationLength, zeros, outcome, names, counts, head, answer, said, answers, foot, confirmation}
+use Rattle.hgc.specs.Laws.{length-zeros, length-outcome, length-names, length-counts, length-answer, length-foot, answers-none, answers-most, answers-more, length-answers}
+
+-- a field, as its reader has it
+pub wide : (from to : ℕ) (l f : List ℕ) → f ≡ field from to l → 1 ≤ from → to ≤ length l → length f ≡ to + 1 - from
+wide from to l f e a h = ap length e ∙ field-length from to l a h
+
+pub outcome-none : (rejected : ℕ) → rejected ≡ 0 → bytes "00" ≡ outcome rejected
+unfolding outcome
+outcome-none rejected e = rw e
+
+pub outcome-some : (rejected : ℕ) → (rejected ≡ 0 → ⊥) → bytes "01" ≡ outcome rejected
+unfolding outcome
+outcome-some zero n = absurd (n refl)
+outcome-some (suc k) n = refl
+
+-- s₁ to s₅ are the block after each field
+pub names-written : (reception h s₀ s₁ s₂ s₃ s₄ s₅ f g : List ℕ) → 46 ≤ length s₀ → length reception ≡ 14 → 128 ≤ length h → f ≡ sender h → g ≡ listSequence h
+    → s₁ ≡ putField 1 (bytes "0") s₀ → s₂ ≡ putField 2 (bytes "000002") s₁ → s₃ ≡ putField 8 f s₂ → s₄ ≡ putField 14 g s₃ → s₅ ≡ putField 33 reception s₄
+    → s₅ ≡ putField 1 (names reception h) s₀
+unfolding names
+names-written reception h s₀ s₁ s₂ s₃ s₄ s₅ f g n d l ef eg e₁ e₂ e₃ e₄ e₅ =
+    let nf : length f ≡ 6 = wide 2 7 h f ef (omega arith) (omega arith) in
+    let ng : length g ≡ 19 = wide 14 32 h g eg (omega arith) (omega arith) in
+    let v₁ = laid 1 2 (bytes "0") s₀ s₁ e₁ refl (omega arith) (omega arith) in
+    let v₂ = laid-next 1 2 _ s₀ s₁ v₁ (bytes "000002") s₂ 8 e₂ refl (omega arith) in
+    let v₃ = laid-next 1 8 _ s₀ s₂ v₂ f s₃ 14 e₃ (omega arith) (omega arith) in
+    let v₄ = laid-next 1 14 _ s₀ s₃ v₃ g s₄ 33 e₄ (omega arith) (omega arith) in
+    let v₅ = laid-next 1 33 _ s₀ s₄ v₄ reception s₅ 47 e₅ (omega arith) (omega arith) in
+    v₅ .is ∙ rw (ef, eg)
+
+pub counts-written : (taken rejected : ℕ) (s₀ s₁ s₂ s₃ s₄ s₅ s₆ : List ℕ) → 110 ≤ length s₀
+    → s₁ ≡ putField 47 (decimal 15 taken) s₀ → s₂ ≡ putField 62 (decimal 15 rejected) s₁ → s₃ ≡ putField 77 (bytes "120001") s₂
+    → s₄ ≡ putField 83 (zeros 25) s₃ → s₅ ≡ putField 108 (outcome rejected) s₄ → s₆ ≡ putField 110 lineEnd s₅
+    → s₆ ≡ putField 47 (counts taken rejected) s₀
+unfolding counts
+counts-written taken rejected s₀ s₁ s₂ s₃ s₄ s₅ s₆ n e₁ e₂ e₃ e₄ e₅ e₆ =
+    let v₁ = laid 47 62 (decimal 15 taken) s₀ s₁ e₁ (omega (arith, length-decimal 15 taken)) (omega arith) (omega arith) in
+    let v₂ = laid-next 47 62 _ s₀ s₁ v₁ (decimal 15 rejected) s₂ 77 e₂ (omega (arith, length-decimal 15 rejected)) (omega arith) in
+    let v₃ = laid-next 47 77 _ s₀ s₂ v₂ (bytes "120001") s₃ 83 e₃ refl (omega arith) in
+    let v₄ = laid-next 47 83 _ s₀ s₃ v₃ (zeros 25) s₄ 108 e₄ (omega (arith, length-zeros 25)) (omega arith) in
+    let v₅ = laid-next 47 108 _ s₀ s₄ v₄ (outcome rejected) s₅ 110 e₅ (omega (arith, length-outcome rejected)) (omega arith) in
+    let v₆ = laid-next 47 110 _ s₀ s₅ v₅ lineEnd s₆ 111 e₆ refl (omega arith) in
+    v₆ .is
+
+pub answer-written : (from reason : ℕ) (l s₀ s₁ s₂ s₃ s₄ f : List ℕ) → 1 ≤ from → from - 1 + 130 ≤ length s₀ → 127 ≤ length l → f ≡ text l
+    → s₁ ≡ putField (from - 1 + 1) (bytes "1") s₀ → s₂ ≡ putField (from - 1 + 2) f s₁ → s₃ ≡ putField (from - 1 + 128) (decimal 2 reason) s₂ → s₄ ≡ putField (from - 1 + 130) lineEnd s₃
+    → s₄ ≡ putField from (answer reason l) s₀
+unfolding answer
+answer-written from reason l s₀ s₁ s₂ s₃ s₄ f o n h ef e₁ e₂ e₃ e₄ =
+    let p : from - 1 + 1 ≡ from = omega arith in
+    let nf : length f ≡ 126 = wide 2 127 l f ef (omega arith) h in
+    let v₁ = laid from (from - 1 + 2) (bytes "1") s₀ s₁ (e₁ ∙ rw p) (omega arith) o (omega arith) in
+    let v₂ = laid-next from (from - 1 + 2) _ s₀ s₁ v₁ f s₂ (from - 1 + 128) e₂ (omega arith) (omega arith) in
+    let v₃ = laid-next from (from - 1 + 128) _ s₀ s₂ v₂ (decimal 2 reason) s₃ (from - 1 + 130) e₃ (omega (arith, length-decimal 2 reason)) (omega arith) in
+    let v₄ = laid-next from (from - 1 + 130) _ s₀ s₃ v₃ lineEnd s₄ (from - 1 + 131) e₄ (omega arith) (omega arith) in
+    v₄ .is ∙ rw ef
+
+pub foot-written : (from : ℕ) (s₀ s₁ s₂ s₃ : List ℕ) → 1 ≤ from → from - 1 + 64 ≤ length s₀
+    → s₁ ≡ putField (from - 1 + 1) (bytes "2") s₀ → s₂ ≡ putField (from - 1 + 2) (zeros 62) s₁ → s₃ ≡ putField (from - 1 + 64) lineEnd s₂
+    → s₃ ≡ putField from foot s₀
+unfolding foot
+foot-written from s₀ s₁ s₂ s₃ o n e₁ e₂ e₃ =
+    let p : from - 1 + 1 ≡ from = omega arith in
+    let v₁ = laid from (from - 1 + 2) (bytes "2") s₀ s₁ (e₁ ∙ rw p) (omega arith) o (omega arith) in
+    let v₂ = laid-next from (from - 1 + 2) _ s₀ s₁ v₁ (zeros 62) s₂ (from - 1 + 64) e₂ (omega (arith, length-zeros 62)) (omega arith) in
+    let v₃ = laid-next from (from - 1 + 64) _ s₀ s₂ v₂ lineEnd s₃ (from - 1 + 65) e₃ (omega arith) (omega arith) in
+    v₃ .is
+
+-- ---- a line answered or not
+
+pub said-none : (v : ℕ) (l : List ℕ) → v ≡ 0 → said v l ≡ []
+unfolding said onto flat bad
+said-none v l e = rw e
+
+pub said-one : (v : ℕ) (l : List ℕ) → (v ≡ 0 → ⊥) → said v l ≡ answer v l
+unfolding said onto flat bad
+said-one zero l n = absurd (n refl)
+said-one (suc v) l n = append-nil (answer (suc v) l)
+
+said-long : (v : ℕ) (l : List ℕ) → (v ≡ 0 → ⊥) → 127 ≤ length l → length (said v l) ≡ 130
+said-long v l n h = ap length (said-one v l n) ∙ length-answer v l h
+
+pub answer-fits : (from v m : ℕ) (l : List ℕ) → from - 1 + length (said v l) ≤ m → (v ≡ 0 → ⊥) → 127 ≤ length l → from - 1 + 130 ≤ m
+answer-fits from v m l r n h = omega (arith, said-long v l n h)
+
+module _ (from v : ℕ) (l s : List ℕ) (o : 1 ≤ from) (room : from - 1 + length (said v l) ≤ length s) where
+  pub line-passed : v ≡ 0 → Laid from from (said v l) s s
+  line-passed e = rw (said-none v l e) (laid-start from s o (omega arith))
+
+  pub line-answered : (s′ : List ℕ) → s′ ≡ putField from (answer v l) s → (v ≡ 0 → ⊥) → 127 ≤ length l → Laid from (from + 130) (said v l) s s′
+  line-answered s′ e n h = laid from (from + 130) (said v l) s s′ (e ∙ rw (said-one v l n)) (omega (arith, said-long v l n h)) o (omega (arith, said-long v l n h))
+
+-- ---- the lines, one after another; b is the body, and o the block before
+
+-- the first i are answered, and q is the position behind
+unfoldable pub Answered : List ℕ → List ℕ → List ℕ → List ℕ → ℕ → ℕ → Type 0
+Answered vs b o s i q = Laid 111 q (flat (answers vs (chop 128 i b))) o s
+
+module _ (vs b o : List ℕ) where
+  pub answered-start : 110 ≤ length o → Answered vs b o o 0 111
+  unfolding Answered flat chop
+  answered-start r = rw (answers-none vs) (laid-start 111 o (omega arith) (omega arith))
+
+  module _ (s : List ℕ) (i q : ℕ) (a : Answered vs b o s i q) where
+    pub answered-end : (n : ℕ) → n ≤ i → i ≤ n → Laid 111 q (flat (answers vs (chop 128 n b))) o s
+    unfolding Answered
+    answered-end n h k = let e : i ≡ n = omega arith in rw e at a
+
+    pub answered-length : length s ≡ length o
+    unfolding Answered
+    answered-length = laid-length 111 q _ o s a
+
+    module _ (h : i < length vs) (m : length vs * 128 ≤ length b) where
+      next-said : flat (answers vs (chop 128 (i + 1) b)) ≡ flat (answers vs (chop 128 i b)) ++ said (getD vs i 0) (partAt 128 i b)
+      unfolding said
+      next-said =
+          let e : length (chop 128 i b) ≡ i = length-chop 128 i b in
+          rw (chop-snoc 128 i b, answers-more vs (chop 128 i b) (partAt 128 i b) (omega arith), e, flat-append)
+
+      module _ (l : List ℕ) (p : l ≡ partAt 128 i b) where
+        pub line-long : 127 ≤ length l
+        line-long = let e : length l ≡ 128 = ap length p ∙ length-part 128 i b (part-fits 128 (length vs) i (length b) m h) in omega arith
+
+        pub answered-room : 110 + tally bad vs * 130 ≤ length o → (1 ≤ q) × ((q - 1 + length (said (getD vs i 0) l) ≤ length s) × (127 ≤ length l))
+        unfolding Answered
+        answered-room r =
+            let done : List ℕ = flat (answers vs (chop 128 i b)) in
+            let m′ : length (flat (answers vs (chop 128 (i + 1) b))) ≡ length (answers vs (chop 128 (i + 1) b)) * 130 = length-answers vs (each-chop 128 (i + 1) b (omega arith)) in
+            let k = answers-most vs (chop 128 (i + 1) b) in
+            let e : length (flat (answers vs (chop 128 (i + 1) b))) ≡ length done + length (said (getD vs i 0) l) = ap length next-said ∙ length-append done (said (getD vs i 0) (partAt 128 i b)) ∙ rw p in
+            let n : length s ≡ length o = laid-length 111 q done o s a in
+            (omega (arith, a .behind), (omega (arith, a .behind), line-long))
+
+        pub answered-turn : (s′ : List ℕ) (q′ : ℕ) → Laid q q′ (said (getD vs i 0) l) s s′ → Answered vs b o s′ (i + 1) q′
+        unfolding Answered
+        answered-turn s′ q′ d = rw next-said (laid-join 111 q q′ _ _ o s s′ a (rw p at d))
+
+-- ---- the whole; s₁ to s₄ are the block after each part, and q is the position of the footer
+
+pub lines-fit : (h b : List ℕ) (n : ℕ) → b ≡ body h → n ≡ linesIn h → n * 128 ≤ length b
+lines-fit h b n e k = rw (e, k) (lines-room h)
+
+module _ (h vs b s₂ s₃ : List ℕ) (q : ℕ) (eb : b ≡ body h) (v : Laid 111 q (flat (answers vs (chop 128 (length vs) b))) s₂ s₃) (each : length vs ≡ linesIn h) where
+  lines-laid : Laid 111 q (flat (answers vs (linesOf h))) s₂ s₃
+  unfolding linesOf
+  lines-laid = rw (each, eb) at v
+
+  foot-place : q ≤ 111 + tally bad vs * 130
+  foot-place = omega (arith, lines-laid .behind, length-answers vs (each-line h), answers-most vs (linesOf h))
+
+  pub foot-fits : confirmationLength (tally bad vs) ≤ length s₂ → (1 ≤ q) × (q - 1 + 64 ≤ length s₃)
+  foot-fits r = let n : length s₃ ≡ length s₂ = laid-length 111 q _ s₂ s₃ v in (omega (arith, v .behind), omega (arith, v .behind, foot-place))
+
+  pub written : (reception o s₁ s₄ : List ℕ) (taken rejected : ℕ) → length reception ≡ 14 → lengthHolds h ≡ true → taken ≡ tally good vs → rejected ≡ tally bad vs → confirmationLength rejected ≤ length o
+      → s₁ ≡ putField 1 (names reception h) o → s₂ ≡ putField 47 (counts taken rejected) s₁ → s₄ ≡ putField q foot s₃
+      → s₄ ≡ confirmation reception h vs ++ drop (length (confirmation reception h vs)) o
+  unfolding confirmation head
+  written reception o s₁ s₄ taken rejected dated whole et er room e₁ e₂ e₄ =
+      let l : length (names reception h) ≡ 46 = length-names reception h dated (omega (arith, length-least h whole)) in
+      let v₁ = laid 1 47 (names reception h) o s₁ e₁ (omega arith) (omega arith) (omega arith) in
+      let v₂ = laid-next 1 47 _ o s₁ v₁ (counts taken rejected) s₂ 111 e₂ (omega (arith, length-counts taken rejected)) (omega arith) in
+      let v₃ = laid-join 1 111 q _ _ o s₂ s₃ v₂ lines-laid in
+      let v₄ = laid-next 1 q _ o s₃ v₃ foot s₄ (q + 64) e₄ (omega (arith, length-foot)) (omega (arith, foot-place)) in
+      laid-front (q + 64) _ o s₄ v₄ ∙ rw (et, er)

@@ -1,0 +1,18 @@
+-- Assumes nothing.
+use mathlib.Core.Path.{_∙_}
+use borrow.Author.Needs.{needs}
+use Rattle.texts.specs.Put.{put-ap}
+use Rattle.hgc.specs.Laws.{decimal-zeros}
+use Rattle.hgc.proofs.put_zeros.Statement.{statement}
+use Rattle.hgc.proofs.put_zeros.Tie as tie
+
+returns : tie.Need-returns
+returns c = c .before .before .put-number .ensures ∙ put-ap _ _ (decimal-zeros _)
+
+pub put-zeros-spec : {M : Type 1} → statement M
+put-zeros-spec =
+    tie.close
+    (tie.spec
+    (λ c κs. search needs)
+    (λ c. search needs)
+    returns)

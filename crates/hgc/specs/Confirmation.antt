@@ -1,0 +1,66 @@
+-- The confirmation (HGC): header 110, a line of 130 for each rejected line, footer 64. Assumes nothing.
+use Prim.Native.Nat.{ℕ, zero, suc, _+_, _*_}
+use mathlib.Core.List.{List, [], _∷_, _++_}
+use lib.ListN.{replicate}
+use Rattle.theory.specs.Text.{bytes}
+use Rattle.theory.specs.Keep.{onto}
+use Rattle.theory.specs.Pick.{good, bad}
+use Rattle.theory.specs.Tally.{tally}
+use Rattle.theory.specs.Join.{flat}
+use Rattle.texts.specs.Field.{lineEnd}
+use Rattle.numbers.specs.Number.{decimal}
+use Rattle.columns.specs.Columns.{text}
+use Rattle.hgv.specs.Layout.{footerLength, linesOf}
+use Rattle.header.specs.Header.{sender, listSequence}
+
+abbrev pub headLength : ℕ
+headLength = 110
+
+abbrev pub answerLength : ℕ
+answerLength = 130
+
+-- as long as 110 + 130 x rejected + 64
+abbrev pub confirmationLength : ℕ → ℕ
+confirmationLength rejected = headLength + rejected * answerLength + footerLength
+
+unfoldable pub zeros : ℕ → List ℕ
+zeros n = replicate n 48
+
+-- `00` if none was rejected else `01`
+unfoldable pub outcome : ℕ → List ℕ
+outcome zero = bytes "00"
+outcome (suc n) = bytes "01"
+
+-- `0`, `000002`, sender, list sequence, reception; h is the HGV
+unfoldable pub names : List ℕ → List ℕ → List ℕ
+names reception h = bytes "0" ++ bytes "000002" ++ sender h ++ listSequence h ++ reception
+
+-- taken 15, rejected 15, `120001` (for 220001 too), 25 zeros, `00` or `01`, LF
+unfoldable pub counts : ℕ → ℕ → List ℕ
+counts taken rejected = decimal 15 taken ++ decimal 15 rejected ++ bytes "120001" ++ zeros 25 ++ outcome rejected ++ lineEnd
+
+-- the header
+unfoldable pub head : List ℕ → List ℕ → ℕ → ℕ → List ℕ
+head reception h taken rejected = names reception h ++ counts taken rejected
+
+-- a rejected line: `1`, positions 2-127 as sent, reason, LF
+unfoldable pub answer : ℕ → List ℕ → List ℕ
+answer reason l = bytes "1" ++ text l ++ decimal 2 reason ++ lineEnd
+
+-- what there is of a line: its answer, and nothing where it was not rejected
+unfoldable pub said : ℕ → List ℕ → List ℕ
+said v l = flat (onto (bad v) (answer v l) [])
+
+-- per rejected line, in file order
+unfoldable pub answers : List ℕ → List (List ℕ) → List (List ℕ)
+answers [] ls = []
+answers (v ∷ vs) [] = []
+answers (v ∷ vs) (l ∷ ls) = onto (bad v) (answer v l) (answers vs ls)
+
+-- `2`, 62 zeros, LF, as the HGV's
+unfoldable pub foot : List ℕ
+foot = bytes "2" ++ zeros 62 ++ lineEnd
+
+-- the confirmation of the HGV h received at `reception`, whose lines have the verdicts vs
+unfoldable pub confirmation : List ℕ → List ℕ → List ℕ → List ℕ
+confirmation reception h vs = head reception h (tally good vs) (tally bad vs) ++ flat (answers vs (linesOf h)) ++ foot

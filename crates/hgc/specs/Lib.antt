@@ -1,0 +1,5 @@
+pub mod Confirmation
+pub mod Laws
+pub mod Fields
+pub mod Whole
+pub mod Outcomes

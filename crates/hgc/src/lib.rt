@@ -1,0 +1,162 @@
+// The confirmation (HGC) of an HGV, written into a block that has room for it.
+pub mod places;
+
+ghost use mathlib.Core.Path.{_≡_};
+ghost use mathlib.Core.Bool.{true};
+ghost use mathlib.Core.List.{_++_};
+ghost use Prim.Native.Nat.{_+_, _*_, _-_, _≤_};
+ghost use lib.ListN.{length, drop};
+ghost use Rattle.theory.specs.Parts.{chop};
+ghost use Rattle.theory.specs.Pick.{good, bad};
+ghost use Rattle.theory.specs.Tally.{tally};
+ghost use Rattle.theory.specs.Join.{flat};
+ghost use Rattle.texts.specs.Put.{putField};
+ghost use Rattle.texts.specs.Laid.{Laid};
+ghost use Rattle.hgv.specs.Layout.{linesIn, lengthHolds};
+ghost use Rattle.hgc.specs.Confirmation.{confirmationLength, zeros, outcome, names, counts, answer, said, answers, foot, confirmation};
+
+const HEADER: usize = 110;
+
+const LINE: usize = 130;
+
+const FOOTER: usize = 64;
+
+// A line of the HGV.
+const LINE_SENT: usize = 128;
+
+// The digits of a count, and of a reason.
+const COUNT: usize = 15;
+
+const REASON: usize = 2;
+
+// The zeros of header and footer.
+const HEADER_ZEROS: usize = 25;
+
+const FOOTER_ZEROS: usize = 62;
+
+fn put_zeros(hgc: &mut [u8], from: usize, n: usize)
+    requires { ⌜ (1 ≤ from) × (from - 1 + n ≤ length (now hgc)) ⌝ }
+    ensures { λ _. ⌜ now (hgc .exit) ≡ putField from (zeros n) (now (hgc .entry)) ⌝ }
+{
+    numbers::put_number(hgc, from, n, 0);
+}
+
+// The header up to reception.
+fn put_names(hgc: &mut [u8], reception: &[u8], hgv: &[u8])
+    requires { ⌜ (46 ≤ length (now hgc)) × ((length (now reception) ≡ 14) × (128 ≤ length (now hgv))) ⌝ }
+    ensures { λ _. ⌜ now (hgc .exit) ≡ putField 1 (names (now (reception .entry)) (now (hgv .entry))) (now (hgc .entry)) ⌝ }
+{
+    let sender = texts::field(
+        hgv,
+        header::columns::SENDER_FROM,
+        header::columns::SENDER_TO,
+    );
+    let sequence = texts::field(
+        hgv,
+        header::columns::SEQUENCE_FROM,
+        header::columns::SEQUENCE_TO,
+    );
+    texts::put_field(hgc, places::HEADER_TYPE, b"0");
+    texts::put_field(hgc, places::SENDER_FROM, b"000002");
+    texts::put_field(hgc, places::RECEIVER_FROM, sender);
+    texts::put_field(hgc, places::SEQUENCE_FROM, sequence);
+    texts::put_field(hgc, places::RECEPTION_FROM, reception);
+}
+
+fn put_outcome(hgc: &mut [u8], rejected: u64)
+    requires { ⌜ 109 ≤ length (now hgc) ⌝ }
+    ensures { λ _. ⌜ now (hgc .exit) ≡ putField 108 (outcome rejected) (now (hgc .entry)) ⌝ }
+{
+    if rejected == 0 {
+        texts::put_field(hgc, places::OUTCOME_FROM, b"00");
+        return;
+    }
+    texts::put_field(hgc, places::OUTCOME_FROM, b"01");
+}
+
+// The header from the counts on.
+fn put_counts(hgc: &mut [u8], taken: u64, rejected: u64)
+    requires { ⌜ 110 ≤ length (now hgc) ⌝ }
+    ensures { λ _. ⌜ now (hgc .exit) ≡ putField 47 (counts taken rejected) (now (hgc .entry)) ⌝ }
+{
+    numbers::put_number(hgc, places::TAKEN_FROM, COUNT, taken);
+    numbers::put_number(hgc, places::REJECTED_FROM, COUNT, rejected);
+    texts::put_field(hgc, places::VERSION_FROM, b"120001");
+    put_zeros(hgc, places::FILLER_FROM, HEADER_ZEROS);
+    put_outcome(hgc, rejected);
+    texts::put_field(hgc, places::HEADER_END, b"\n");
+}
+
+fn put_answer(hgc: &mut [u8], from: usize, line: &[u8], reason: u8)
+    requires { ⌜ (1 ≤ from) × ((from - 1 + 130 ≤ length (now hgc)) × (127 ≤ length (now line))) ⌝ }
+    ensures { λ _. ⌜ now (hgc .exit) ≡ putField from (answer reason (now (line .entry))) (now (hgc .entry)) ⌝ }
+{
+    let at = from - 1;
+    let text = texts::field(line, places::TEXT_FROM, places::TEXT_TO);
+    texts::put_field(hgc, at + places::LINE_TYPE, b"1");
+    texts::put_field(hgc, at + places::TEXT_FROM, text);
+    numbers::put_number(hgc, at + places::REASON_FROM, REASON, reason as u64);
+    texts::put_field(hgc, at + places::LINE_END, b"\n");
+}
+
+// The answer to a line, where its verdict rejects it; the position behind.
+fn answer_line(hgc: &mut [u8], from: usize, line: &[u8], verdict: u8) -> usize
+    requires { ⌜ (1 ≤ from) × ((from - 1 + length (said verdict (now line)) ≤ length (now hgc)) × (127 ≤ length (now line))) ⌝ }
+    ensures { λ r. ⌜ Laid from r (said verdict (now (line .entry))) (now (hgc .entry)) (now (hgc .exit)) ⌝ }
+{
+    if verdict == 0 {
+        return from;
+    }
+    put_answer(hgc, from, line, verdict);
+    from + LINE
+}
+
+// The answers behind the header; the position behind them.
+fn put_answers(hgc: &mut [u8], lines: &[u8], verdicts: &[u8]) -> usize
+    requires { ⌜ (length (now verdicts) * 128 ≤ length (now lines)) × (110 + tally bad (now verdicts) * 130 ≤ length (now hgc)) ⌝ }
+    ensures { λ r. ⌜ Laid 111 r (flat (answers (now (verdicts .entry)) (chop 128 (length (now (verdicts .entry))) (now (lines .entry))))) (now (hgc .entry)) (now (hgc .exit)) ⌝ }
+{
+    let mut behind = HEADER + 1;
+    let mut i: usize = 0;
+    while i < verdicts.len() {
+        behind = answer_line(hgc, behind, texts::part(lines, LINE_SENT, i), verdicts[i]);
+        i += 1;
+    }
+    behind
+}
+
+fn put_foot(hgc: &mut [u8], from: usize)
+    requires { ⌜ (1 ≤ from) × (from - 1 + 64 ≤ length (now hgc)) ⌝ }
+    ensures { λ _. ⌜ now (hgc .exit) ≡ putField from foot (now (hgc .entry)) ⌝ }
+{
+    let at = from - 1;
+    texts::put_field(hgc, at + places::FOOTER_TYPE, b"2");
+    put_zeros(hgc, at + places::ZEROS_FROM, FOOTER_ZEROS);
+    texts::put_field(hgc, at + places::FOOTER_END, b"\n");
+}
+
+// The confirmation in front of the block; what lies behind it stays as it was.
+pub fn write(
+    hgc: &mut [u8],
+    reception: &[u8],
+    hgv: &[u8],
+    verdicts: &[u8],
+    taken: u64,
+    rejected: u64,
+)
+    requires { ⌜ (length (now reception) ≡ 14) × ((lengthHolds (now hgv) ≡ true) × ((length (now verdicts) ≡ linesIn (now hgv)) × ((taken ≡ tally good (now verdicts)) × ((rejected ≡ tally bad (now verdicts)) × (confirmationLength rejected ≤ length (now hgc)))))) ⌝ }
+    ensures { λ _. ⌜ now (hgc .exit) ≡ confirmation (now (reception .entry)) (now (hgv .entry)) (now (verdicts .entry)) ++ drop (length (confirmation (now (reception .entry)) (now (hgv .entry)) (now (verdicts .entry)))) (now (hgc .entry)) ⌝ }
+{
+    put_names(hgc, reception, hgv);
+    put_counts(hgc, taken, rejected);
+    let behind = put_answers(hgc, hgv::body(hgv), verdicts);
+    put_foot(hgc, behind);
+}
+
+// How long the confirmation is.
+pub fn length_for(rejected: usize) -> usize
+    requires { ⌜ rejected ≤ 8192 ⌝ }
+    ensures { λ r. ⌜ r ≡ confirmationLength rejected ⌝ }
+{
+    HEADER + rejected * LINE + FOOTER
+}
