@@ -6,9 +6,9 @@ use native.Mathlib.Omega.{arith}
 use borrow.Author.Tests.{not-true, not-false}
 use lib.ListN.{length}
 use Rattle.theory.specs.Every.{all, allFrom, all-start, all-on, all-off, all-end}
-use Rattle.fields.specs.Field.{hex}
-use Rattle.fields.proofs.all_hex.Statement.{statement}
-use Rattle.fields.proofs.all_hex.Tie as tie
+use Rattle.characters.specs.Characters.{hex}
+use Rattle.characters.proofs.all_hex.Statement.{statement}
+use Rattle.characters.proofs.all_hex.Tie as tie
 
 abbrev Inv-loop : tie.InvT-loop
 Inv-loop s i₀ i = (i ≤ length s) × (all hex s ≡ allFrom hex s i)

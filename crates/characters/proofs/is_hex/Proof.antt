@@ -1,8 +1,8 @@
 -- Assumes nothing.
 use borrow.Author.Needs.{needs}
 use Rattle.theory.specs.Every.{run}
-use Rattle.fields.proofs.is_hex.Statement.{statement}
-use Rattle.fields.proofs.is_hex.Tie as tie
+use Rattle.characters.proofs.is_hex.Statement.{statement}
+use Rattle.characters.proofs.is_hex.Tie as tie
 
 returns : tie.Need-returns
 unfolding run
