@@ -53,10 +53,10 @@ fn has_length(long: &[u8], n: usize) -> bool {
 
 fn of_body(tag: &[u8], file: &[u8], f: &[u8], room: &[u8]) -> u64 {
     if texts::same(tag, b"footer  ") {
-        return told(hgv::has_footer(file));
+        return told(frames::has_footer(file));
     }
     if texts::same(tag, b"frames  ") {
-        return told(hgv::has_frames(file));
+        return told(frames::has_frames(file));
     }
     if texts::same(tag, b"length  ") {
         let n = numbers::number(texts::field(f, 1, 3)) as usize;
@@ -70,13 +70,13 @@ fn of_header(tag: &[u8], file: &[u8], f: &[u8], room: &[u8]) -> u64 {
         return told(header::has_header(file));
     }
     if texts::same(tag, b"version ") {
-        return told(header::has_version(file));
+        return told(claims::has_version(file));
     }
     if texts::same(tag, b"receiver") {
-        return told(header::has_receiver(file));
+        return told(claims::has_receiver(file));
     }
     if texts::same(tag, b"count   ") {
-        return told(header::has_count(file));
+        return told(claims::has_count(file));
     }
     of_body(tag, file, f, room)
 }

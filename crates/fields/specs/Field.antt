@@ -1,10 +1,7 @@
 -- What one field of a line, a header or a row may hold. Text is ISO 8859-1, so '0' is 48 and ' ' is 32. Assumes nothing.
 use Prim.Native.Nat.{ℕ}
-use mathlib.Core.Bool.{Bool, _&&_, _||_}
-use mathlib.Core.List.{List}
-use lib.Dec.{leb, ltb}
-use lib.ListN.{length, drop}
-use Rattle.theory.specs.Every.{all, leading}
+use mathlib.Core.Bool.{Bool, _&&_}
+use lib.Dec.{leb}
 
 abbrev pub between : ℕ → ℕ → ℕ → Bool
 between lo hi b = leb lo b && leb b hi
@@ -28,18 +25,6 @@ blank = between 32 32
 abbrev pub capital : ℕ → Bool
 capital = between 65 90
 
--- 0 to 9, A to F
-abbrev pub hex : ℕ → Bool
-hex b = between 48 57 b || between 65 70 b
-
 -- not below 32: no control character
 abbrev pub plain : ℕ → Bool
 plain b = leb 32 b
-
--- at least one character, k in all, then blanks
-unfoldable pub filledTo : ℕ → List ℕ → Bool
-filledTo k f = leb k (length f) && ltb 0 k && all blank (drop k f)
-
--- at least one character that passes, then blanks
-unfoldable pub filled : (ℕ → Bool) → List ℕ → Bool
-filled p f = filledTo (leading p f) f

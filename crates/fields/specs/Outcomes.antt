@@ -4,16 +4,8 @@ use mathlib.Core.Bool.{Bool}
 use mathlib.Core.List.{List}
 use Prim.Native.Nat.{ℕ}
 use Rattle.theory.specs.Outcome.{one-outcome}
-use Rattle.theory.specs.Every.{run, leading}
-use Rattle.fields.specs.Field.{filledTo}
+use Rattle.theory.specs.Every.{run}
 
--- is_digits, is_zeros, is_nulls, is_blanks, is_capitals, is_hex
+-- is_digits, is_zeros, is_nulls, is_blanks, is_capitals
 pub run-one : (p : ℕ → Bool) (n : ℕ) (f : List ℕ) (r s : Bool) → r ≡ run p n f → s ≡ run p n f → r ≡ s
 run-one p n f r s = one-outcome
-
--- digits_in
-pub leading-one : (p : ℕ → Bool) (f : List ℕ) (r s : ℕ) → r ≡ leading p f → s ≡ leading p f → r ≡ s
-leading-one p f r s = one-outcome
-
-pub filled-one : (k : ℕ) (f : List ℕ) (r s : Bool) → r ≡ filledTo k f → s ≡ filledTo k f → r ≡ s
-filled-one k f r s = one-outcome

@@ -6,15 +6,15 @@ use Prim.Native.Nat.{ℕ, zero, suc, _+_, _-_, _*_, _/_, _≤_, _<_}
 use native.Mathlib.Omega.{arith}
 use native.Mathlib.Nat.{div-add-mod'}
 use lib.Dec.{eqb, leb, ltb}
-use lib.ListN.{length, take, drop, length-append, length-drop, take-append-drop}
+use lib.ListN.{length, take, drop, length-append, length-drop}
 use lib.Seq.{take-add, drop-drop, length-take-le}
 use borrow.Author.Tests.{leb-true, ltb-true, le-leb}
 use Rattle.theory.specs.Truth.{and-left, and-right, and-split, and-both}
 use Rattle.theory.specs.Same.{eqs, eqs-true, mem}
-use Rattle.theory.specs.Every.{all, run, leading, run-length, run-all, all-run, all-take, all-drop, all-wider, all-append, leading-all}
+use Rattle.theory.specs.Every.{all, run, run-length, run-all, all-run, all-take, all-drop, all-wider, all-append}
 use Rattle.theory.specs.Parts.{chop}
 use Rattle.texts.specs.Field.{field, listed}
-use Rattle.fields.specs.Field.{between, blank, plain, filledTo, filled}
+use Rattle.fields.specs.Field.{between, plain}
 
 -- characters from the blank on are plain
 pub between-plain : (lo hi : ℕ) → 32 ≤ lo → (b : ℕ) → between lo hi b ≡ true → plain b ≡ true
@@ -49,16 +49,6 @@ cover-join a b c l o h k =
     (simp length-append (omega (arith, run-length plain n (take n d) h, run-length plain m (take m (drop (b + 1 - 1) l)) k)))
     (all-append plain (take n d) (take m (drop (b + 1 - 1) l))
     ∙ and-both (all plain (take n d)) (all plain (take m (drop (b + 1 - 1) l))) (run-all plain n (take n d) h) (run-all plain m (take m (drop (b + 1 - 1) l)) k)))
-
--- characters that are plain, then blanks
-pub filled-plain : (p : ℕ → Bool) → ((x : ℕ) → p x ≡ true → plain x ≡ true) → (f : List ℕ) → filled p f ≡ true → all plain f ≡ true
-unfolding filled filledTo
-filled-plain p g f h =
-    let k : ℕ = leading p f in
-    let e : all blank (drop k f) ≡ true = and-right (leb k (length f) && ltb 0 k) (all blank (drop k f)) h in
-    rw (take-append-drop k f) at
-    (all-append plain (take k f) (drop k f)
-    ∙ and-both (all plain (take k f)) (all plain (drop k f)) (all-wider p plain g (take k f) (leading-all p f)) (all-wider blank plain (between-plain 32 32 (omega arith)) (drop k f) e))
 
 -- an entry of a table has the entries' width, and the table's bytes
 entry-plain : (w n : ℕ) (table f : List ℕ) → n * w ≤ length table → all plain table ≡ true → mem f (chop w n table) ≡ true → run plain w f ≡ true

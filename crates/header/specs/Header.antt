@@ -1,17 +1,14 @@
--- The HGV's header: stops 26, 27, 28's version, 29's receiver and 30. Assumes nothing.
+-- The HGV's header: its fields, and its form (stop 26). Assumes nothing.
 use Prim.Native.Nat.{ℕ}
 use mathlib.Core.Bool.{Bool, _&&_, _||_}
 use mathlib.Core.List.{List}
-use lib.Dec.{eqb, leb}
-use lib.ListN.{length}
 use Rattle.theory.specs.Text.{bytes}
 use Rattle.theory.specs.Same.{eqs}
 use Rattle.theory.specs.Every.{run}
-use Rattle.texts.specs.Field.{field, lineEnd, listed}
+use Rattle.texts.specs.Field.{field, lineEnd}
 use Rattle.fields.specs.Field.{digit, zero}
-use Rattle.numbers.specs.Number.{number}
-use Rattle.times.specs.Time.{realTime, realDate}
-use Rattle.hgv.specs.Layout.{linesIn}
+use Rattle.times.specs.Time.{realTime}
+use Rattle.sequences.specs.Sequence.{sequence}
 
 -- ---- the fields, by their positions
 
@@ -38,12 +35,6 @@ version h = field 95 100 h
 
 -- ---- their forms
 
--- `HGV`, sender, real date, 01-99
-unfoldable pub sequence : List ℕ → List ℕ → Bool
-sequence from f =
-    eqb (length f) 19 && eqs (field 1 3 f) (bytes "HGV") && eqs (field 4 9 f) from && realDate (field 10 17 f)
-    && run digit 2 (field 18 19 f) && leb 1 (number (field 18 19 f))
-
 -- the previous sequence of a first list: `HGV` and 16 zeros
 abbrev pub noList : List ℕ
 noList = bytes "HGV0000000000000000"
@@ -61,19 +52,3 @@ headerHolds h =
     && previousHolds h
     && run zero 14 (field 52 65 h) && run digit 15 (count h) && realTime (creation h)
     && run zero 27 (field 101 127 h) && eqs (field 128 128 h) lineEnd
-
--- stop 27 is given where this does not hold: 120001 or 220001
-unfoldable pub versionHolds : List ℕ → Bool
-versionHolds h = listed 6 (bytes "120001220001") (version h)
-
--- stop 28 is given in mode 2 where this holds: 220001
-unfoldable pub incrementalOnly : List ℕ → Bool
-incrementalOnly h = eqs (version h) (bytes "220001")
-
--- stop 29, first half, is given where this does not hold: the receiver is 000002
-unfoldable pub receiverHolds : List ℕ → Bool
-receiverHolds h = eqs (receiver h) (bytes "000002")
-
--- stop 30 is given where this does not hold: the count is n
-unfoldable pub countHolds : List ℕ → Bool
-countHolds h = eqb (number (count h)) (linesIn h)

@@ -1,7 +1,4 @@
-// The columns of the header and of a sequence: the first and the last position of each, counted from 1
-// as in the document's tables.
-
-// The header.
+// The columns of the header: the first and the last position of each, counted from 1 as in the document's table.
 pub const HEADER_TYPE: usize = 1;
 
 pub const SENDER_FROM: usize = 2;
@@ -41,20 +38,3 @@ pub const FILLER_FROM: usize = 101;
 pub const FILLER_TO: usize = 127;
 
 pub const HEADER_END: usize = 128;
-
-// A sequence.
-pub const FILE_FROM: usize = 1;
-
-pub const FILE_TO: usize = 3;
-
-pub const OWNER_FROM: usize = 4;
-
-pub const OWNER_TO: usize = 9;
-
-pub const DATE_FROM: usize = 10;
-
-pub const DATE_TO: usize = 17;
-
-pub const NUMBER_FROM: usize = 18;
-
-pub const NUMBER_TO: usize = 19;

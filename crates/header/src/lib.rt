@@ -1,4 +1,4 @@
-// The HGV's header (stops 26 to 30). Every public function takes a file of any length.
+// The form of the HGV's header (stop 26). Every public function takes a file of any length.
 pub mod columns;
 
 ghost use mathlib.Core.Path.{_≡_};
@@ -7,9 +7,8 @@ ghost use Rattle.theory.specs.Every.{run};
 ghost use Rattle.texts.specs.Field.{field};
 ghost use Rattle.fields.specs.Field.{digit, zero};
 ghost use Rattle.times.specs.Time.{realTime};
-ghost use Rattle.header.specs.Header.{sender, listSequence, creation, sequence, previousHolds, headerHolds, versionHolds, incrementalOnly, receiverHolds, countHolds};
-
-const SEQUENCE: usize = 19;
+ghost use Rattle.sequences.specs.Sequence.{sequence};
+ghost use Rattle.header.specs.Header.{sender, listSequence, creation, previousHolds, headerHolds};
 
 fn has_digits(s: &[u8], from: usize, to: usize, n: usize) -> bool
     requires { ⌜ (1 ≤ from) × (from ≤ to) ⌝ }
@@ -25,24 +24,10 @@ fn has_zeros(s: &[u8], from: usize, to: usize, n: usize) -> bool
     fields::is_zeros(texts::field(s, from, to), n)
 }
 
-// Is `f` a sequence of the sender `from`.
-pub fn is_sequence(f: &[u8], from: &[u8]) -> bool
-    ensures { λ r. ⌜ r ≡ sequence (now (from .entry)) (now (f .entry)) ⌝ }
-{
-    let digits = texts::field(f, columns::NUMBER_FROM, columns::NUMBER_TO);
-    let number = numbers::number(digits);
-    (f.len() == SEQUENCE)
-        & texts::has_text(f, columns::FILE_FROM, columns::FILE_TO, b"HGV")
-        & texts::has_text(f, columns::OWNER_FROM, columns::OWNER_TO, from)
-        & times::is_real_date(texts::field(f, columns::DATE_FROM, columns::DATE_TO))
-        & fields::is_digits(digits, 2)
-        & (1 <= number)
-}
-
 fn has_sequence(h: &[u8]) -> bool
     ensures { λ r. ⌜ r ≡ sequence (sender (now (h .entry))) (listSequence (now (h .entry))) ⌝ }
 {
-    is_sequence(
+    sequences::is_sequence(
         texts::field(h, columns::SEQUENCE_FROM, columns::SEQUENCE_TO),
         texts::field(h, columns::SENDER_FROM, columns::SENDER_TO),
     )
@@ -53,7 +38,7 @@ fn has_previous(h: &[u8]) -> bool
 {
     let f = texts::field(h, columns::PREVIOUS_FROM, columns::PREVIOUS_TO);
     let from = texts::field(h, columns::SENDER_FROM, columns::SENDER_TO);
-    is_sequence(f, from) | texts::same(f, b"HGV0000000000000000")
+    sequences::is_sequence(f, from) | texts::same(f, b"HGV0000000000000000")
 }
 
 fn has_creation(h: &[u8]) -> bool
@@ -75,34 +60,4 @@ pub fn has_header(h: &[u8]) -> bool
         & has_creation(h)
         & has_zeros(h, columns::FILLER_FROM, columns::FILLER_TO, 27)
         & texts::has_text(h, columns::HEADER_END, columns::HEADER_END, b"\n")
-}
-
-pub fn has_version(h: &[u8]) -> bool
-    ensures { λ r. ⌜ r ≡ versionHolds (now (h .entry)) ⌝ }
-{
-    texts::listed(
-        texts::field(h, columns::VERSION_FROM, columns::VERSION_TO),
-        6,
-        b"120001220001",
-    )
-}
-
-// Is the version one that only an incremental list may have.
-pub fn is_incremental_only(h: &[u8]) -> bool
-    ensures { λ r. ⌜ r ≡ incrementalOnly (now (h .entry)) ⌝ }
-{
-    texts::has_text(h, columns::VERSION_FROM, columns::VERSION_TO, b"220001")
-}
-
-pub fn has_receiver(h: &[u8]) -> bool
-    ensures { λ r. ⌜ r ≡ receiverHolds (now (h .entry)) ⌝ }
-{
-    texts::has_text(h, columns::RECEIVER_FROM, columns::RECEIVER_TO, b"000002")
-}
-
-pub fn has_count(h: &[u8]) -> bool
-    ensures { λ r. ⌜ r ≡ countHolds (now (h .entry)) ⌝ }
-{
-    numbers::number(texts::field(h, columns::COUNT_FROM, columns::COUNT_TO))
-        == hgv::lines_in(h) as u64
 }

@@ -17,7 +17,7 @@ use Rattle.numbers.specs.Number.{decimal}
 use Rattle.numbers.specs.Laws.{length-decimal}
 use Rattle.columns.specs.Columns.{text}
 use Rattle.hgv.specs.Layout.{lineLength}
-use Rattle.hgv.specs.Body.{footerForm}
+use Rattle.frames.specs.Frames.{footerForm}
 use Rattle.header.specs.Header.{sender, listSequence}
 use Rattle.hgc.specs.Confirmation.{zeros, outcome, names, counts, head, answer, answers, foot}
 use Rattle.hgc.specs.Laws.{length-zeros, length-outcome, length-names}

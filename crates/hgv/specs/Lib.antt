@@ -1,4 +1,3 @@
 pub mod Layout
-pub mod Body
 pub mod Laws
 pub mod Outcomes

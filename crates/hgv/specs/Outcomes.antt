@@ -5,7 +5,6 @@ use mathlib.Core.List.{List}
 use Prim.Native.Nat.{ℕ}
 use Rattle.theory.specs.Outcome.{one-outcome}
 use Rattle.hgv.specs.Layout.{linesIn, lengthHolds, body}
-use Rattle.hgv.specs.Body.{footerForm, footerHolds, framesHold}
 
 pub length-one : (h : List ℕ) (r s : Bool) → r ≡ lengthHolds h → s ≡ lengthHolds h → r ≡ s
 length-one h r s = one-outcome
@@ -15,12 +14,3 @@ lines-one h r s = one-outcome
 
 pub body-one : (h r s : List ℕ) → r ≡ body h → s ≡ body h → r ≡ s
 body-one h r s = one-outcome
-
-pub footer-form-one : (f : List ℕ) (r s : Bool) → r ≡ footerForm f → s ≡ footerForm f → r ≡ s
-footer-form-one f r s = one-outcome
-
-pub footer-one : (h : List ℕ) (r s : Bool) → r ≡ footerHolds h → s ≡ footerHolds h → r ≡ s
-footer-one h r s = one-outcome
-
-pub frames-one : (h : List ℕ) (r s : Bool) → r ≡ framesHold h → s ≡ framesHold h → r ≡ s
-frames-one h r s = one-outcome

@@ -11,7 +11,8 @@ use Rattle.theory.specs.Parts.{chop}
 use Rattle.theory.specs.Walk.{each, some}
 use Rattle.issuers.specs.declared.Issued.{Issued}
 use Rattle.texts.specs.Field.{field}
-use Rattle.fields.specs.Field.{digit, filled}
+use Rattle.fields.specs.Field.{digit}
+use Rattle.characters.specs.Characters.{filled}
 use Rattle.numbers.specs.Number.{number}
 
 -- a row's length, and the most rows

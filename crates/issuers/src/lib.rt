@@ -40,13 +40,13 @@ fn is_row(r: &[u8]) -> bool
     ensures { λ t. ⌜ t ≡ row (now (r .entry)) ⌝ }
 {
     let bin = texts::field(r, BIN_FROM, BIN_TO);
-    let given = fields::digits_in(bin);
+    let given = characters::digits_in(bin);
     let bin_length = texts::field(r, BIN_LENGTH_FROM, BIN_LENGTH_TO);
     let used = numbers::number(bin_length);
     let pan_length = texts::field(r, PAN_LENGTH_FROM, PAN_LENGTH_TO);
     let digits = numbers::number(pan_length);
     (6 <= given)
-        & fields::is_filled(bin, given)
+        & characters::is_filled(bin, given)
         & fields::is_digits(bin_length, 2)
         & (6 <= used)
         & (used <= 14)
@@ -128,7 +128,7 @@ pub fn issued_to(b: &[u8], sender: &[u8], pan: &[u8]) -> Issued
     ensures { λ r. ⌜ r ≡ issuedOf (now (b .entry)) (now (sender .entry)) (now (pan .entry)) ⌝ }
 {
     let n = b.len() / ROW;
-    let digits = fields::digits_in(pan);
+    let digits = characters::digits_in(pan);
     let mut begins = false;
     let mut fits = false;
     let mut i: usize = 0;

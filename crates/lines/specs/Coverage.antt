@@ -13,9 +13,11 @@ use Rattle.theory.specs.Text.{bytes}
 use Rattle.theory.specs.Truth.{and-left, and-right, and-split}
 use Rattle.theory.specs.Every.{all, run, run-length, run-all, all-run}
 use Rattle.texts.specs.Field.{field, listed}
-use Rattle.fields.specs.Field.{between, digit, zero, blank, capital, hex, plain, filled}
+use Rattle.fields.specs.Field.{between, digit, zero, blank, capital, plain}
+use Rattle.characters.specs.Characters.{hex, filled}
 use Rattle.numbers.specs.Number.{number}
-use Rattle.fields.specs.Plain.{Covered, between-plain, run-covered, cover-join, filled-plain, listed-plain}
+use Rattle.fields.specs.Plain.{Covered, between-plain, run-covered, cover-join, listed-plain}
+use Rattle.characters.specs.Plain.{filled-plain}
 use Rattle.times.specs.Time.{realTime}
 use Rattle.times.specs.Moment.{real-length, real-all}
 use Rattle.pans.specs.Pan.{pan}

@@ -6,7 +6,8 @@ use mathlib.Core.List.{List, [], _∷_}
 use Rattle.theory.specs.First.{Rule, _if_, first}
 use Rattle.theory.specs.Same.{eqs}
 use Rattle.theory.specs.Every.{run}
-use Rattle.fields.specs.Field.{digit, blank, hex}
+use Rattle.fields.specs.Field.{digit, blank}
+use Rattle.characters.specs.Characters.{hex}
 use Rattle.pans.specs.Pan.{pan, luhn}
 use Rattle.plates.specs.Plate.{plate, nationality}
 use Rattle.issuers.specs.Rows.{begun, fitted}

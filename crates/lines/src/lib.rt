@@ -18,7 +18,7 @@ fn holds_l7(l: &[u8]) -> bool
 fn holds_l8(l: &[u8]) -> bool
     ensures { λ r. ⌜ r ≡ L8 (now (l .entry)) ⌝ }
 {
-    fields::is_hex(
+    characters::is_hex(
         texts::field(l, columns::CONTEXT_MARK_FROM, columns::CONTEXT_MARK_TO),
         12,
     )
@@ -27,7 +27,7 @@ fn holds_l8(l: &[u8]) -> bool
 fn holds_l9(l: &[u8]) -> bool
     ensures { λ r. ⌜ r ≡ L9 (now (l .entry)) ⌝ }
 {
-    fields::is_hex(
+    characters::is_hex(
         texts::field(l, columns::OBE_ID_FROM, columns::OBE_ID_TO),
         18,
     )

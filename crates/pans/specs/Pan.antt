@@ -5,7 +5,8 @@ use mathlib.Core.List.{List, [], _∷_}
 use lib.Dec.{eqb}
 use lib.ListN.{length, take}
 use Rattle.theory.specs.Every.{leading}
-use Rattle.fields.specs.Field.{digit, filled}
+use Rattle.fields.specs.Field.{digit}
+use Rattle.characters.specs.Characters.{filled}
 
 -- the field's length
 abbrev pub panLength : ℕ

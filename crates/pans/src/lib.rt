@@ -11,7 +11,7 @@ const PAN_LENGTH: usize = 19;
 pub fn is_pan(f: &[u8]) -> bool
     ensures { λ r. ⌜ r ≡ pan (now (f .entry)) ⌝ }
 {
-    (f.len() == PAN_LENGTH) & fields::is_filled(f, fields::digits_in(f))
+    (f.len() == PAN_LENGTH) & characters::is_filled(f, characters::digits_in(f))
 }
 
 fn doubled(d: u64) -> u64
@@ -50,6 +50,6 @@ fn luhn_sum(digits: &[u8]) -> u64
 pub fn is_luhn(f: &[u8]) -> bool
     ensures { λ r. ⌜ r ≡ luhn (now (f .entry)) ⌝ }
 {
-    let k = fields::digits_in(f);
+    let k = characters::digits_in(f);
     luhn_sum(&f[..k]) == 0
 }

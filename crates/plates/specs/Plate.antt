@@ -7,7 +7,8 @@ use lib.Dec.{eqb, leb}
 use lib.ListN.{length, getD}
 use Rattle.theory.specs.Every.{run, leading}
 use Rattle.texts.specs.Field.{field}
-use Rattle.fields.specs.Field.{between, digit, capital, blank, filled}
+use Rattle.fields.specs.Field.{between, digit, capital, blank}
+use Rattle.characters.specs.Characters.{filled}
 use Rattle.numbers.specs.Number.{number}
 
 -- A-Z, 0-9, a-z, Ä Ö Ü ä ü (C4 D6 DC E4 FC)

@@ -48,7 +48,7 @@ pub fn plate_characters(f: &[u8]) -> usize
 pub fn is_plate(f: &[u8]) -> bool
     ensures { λ r. ⌜ r ≡ plate (now (f .entry)) ⌝ }
 {
-    (f.len() == PLATE_LENGTH) & fields::is_filled(f, plate_characters(f))
+    (f.len() == PLATE_LENGTH) & characters::is_filled(f, plate_characters(f))
 }
 
 pub fn is_nationality(f: &[u8]) -> bool

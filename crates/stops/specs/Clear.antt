@@ -8,8 +8,9 @@ use Rattle.theory.specs.First.{None, none, more, first, choose, first-clear, nu
 use Rattle.times.specs.Time.{realTime}
 use Rattle.issuers.specs.Rows.{rows}
 use Rattle.hgv.specs.Layout.{lengthHolds}
-use Rattle.hgv.specs.Body.{footerHolds, framesHold}
-use Rattle.header.specs.Header.{headerHolds, versionHolds, countHolds}
+use Rattle.frames.specs.Frames.{footerHolds, framesHold}
+use Rattle.header.specs.Header.{headerHolds}
+use Rattle.claims.specs.Claims.{versionHolds, countHolds}
 use Rattle.register.specs.Register.{inOrder}
 use Rattle.stops.specs.Stops.{modeHolds, notFull, addressed, formStops, formStop}
 

@@ -8,8 +8,9 @@ use Rattle.theory.specs.First.{Rule, _if_, first}
 use Rattle.times.specs.Time.{realTime}
 use Rattle.issuers.specs.Rows.{rows, known}
 use Rattle.hgv.specs.Layout.{lengthHolds}
-use Rattle.hgv.specs.Body.{footerHolds, framesHold}
-use Rattle.header.specs.Header.{sender, headerHolds, versionHolds, incrementalOnly, receiverHolds, countHolds}
+use Rattle.frames.specs.Frames.{footerHolds, framesHold}
+use Rattle.header.specs.Header.{sender, headerHolds}
+use Rattle.claims.specs.Claims.{versionHolds, incrementalOnly, receiverHolds, countHolds}
 use Rattle.register.specs.Register.{inOrder}
 use Rattle.holdings.specs.Holdings.{isFull}
 

@@ -15,7 +15,7 @@ fn is_mode(mode: u64) -> bool
 fn is_not_full(mode: u64, hgv: &[u8]) -> bool
     ensures { λ r. ⌜ r ≡ notFull mode (now (hgv .entry)) ⌝ }
 {
-    (mode == FULL) & header::is_incremental_only(hgv)
+    (mode == FULL) & claims::is_incremental_only(hgv)
 }
 
 fn is_addressed(rows: &[u8], hgv: &[u8]) -> bool
@@ -26,19 +26,19 @@ fn is_addressed(rows: &[u8], hgv: &[u8]) -> bool
         header::columns::SENDER_FROM,
         header::columns::SENDER_TO,
     );
-    header::has_receiver(hgv) & issuers::is_known(rows, sender)
+    claims::has_receiver(hgv) & issuers::is_known(rows, sender)
 }
 
 // The first of the stops 21 to 32 that holds, or 0: from the last to the first, so that the first stands.
 pub fn form_stop(mode: u64, reception: &[u8], register: &[u8], rows: &[u8], hgv: &[u8]) -> u64
     ensures { λ r. ⌜ r ≡ formStop mode (now (reception .entry)) (now (register .entry)) (now (rows .entry)) (now (hgv .entry)) ⌝ }
 {
-    let s32 = rules::first(!hgv::has_frames(hgv), 32, 0);
-    let s31 = rules::first(!hgv::has_footer(hgv), 31, s32);
-    let s30 = rules::first(!header::has_count(hgv), 30, s31);
+    let s32 = rules::first(!frames::has_frames(hgv), 32, 0);
+    let s31 = rules::first(!frames::has_footer(hgv), 31, s32);
+    let s30 = rules::first(!claims::has_count(hgv), 30, s31);
     let s29 = rules::first(!is_addressed(rows, hgv), 29, s30);
     let s28 = rules::first(is_not_full(mode, hgv), 28, s29);
-    let s27 = rules::first(!header::has_version(hgv), 27, s28);
+    let s27 = rules::first(!claims::has_version(hgv), 27, s28);
     let s26 = rules::first(!header::has_header(hgv), 26, s27);
     let s25 = rules::first(!hgv::has_length(hgv), 25, s26);
     let s24 = rules::first(!issuers::are_rows(rows), 24, s25);

@@ -1,7 +1,7 @@
 -- Assumes nothing.
 use borrow.Author.Needs.{needs}
 use native.Mathlib.Omega.{arith}
-use Rattle.fields.specs.Field.{filled}
+use Rattle.characters.specs.Characters.{filled}
 use Rattle.texts.specs.Laws.{field-short}
 use Rattle.issuers.specs.Rows.{row}
 use Rattle.issuers.proofs.is_row.Statement.{statement}

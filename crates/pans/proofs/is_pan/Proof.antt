@@ -1,6 +1,6 @@
 -- Assumes nothing.
 use borrow.Author.Needs.{needs}
-use Rattle.fields.specs.Field.{filled}
+use Rattle.characters.specs.Characters.{filled}
 use Rattle.pans.specs.Pan.{pan}
 use Rattle.pans.proofs.is_pan.Statement.{statement}
 use Rattle.pans.proofs.is_pan.Tie as tie

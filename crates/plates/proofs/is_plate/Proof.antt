@@ -1,6 +1,6 @@
 -- Assumes nothing.
 use borrow.Author.Needs.{needs}
-use Rattle.fields.specs.Field.{filled}
+use Rattle.characters.specs.Characters.{filled}
 use Rattle.plates.specs.Plate.{plate}
 use Rattle.plates.proofs.is_plate.Statement.{statement}
 use Rattle.plates.proofs.is_plate.Tie as tie

@@ -1,0 +1,3 @@
+pub mod Characters
+pub mod Plain
+pub mod Outcomes

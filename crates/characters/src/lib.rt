@@ -1,0 +1,61 @@
+// The characters of a field: hexadecimal digits, how many digits stand in front, and blanks behind them. Every function
+// takes a slice of any length.
+ghost use mathlib.Core.Path.{_≡_};
+ghost use Rattle.theory.specs.Every.{all, run, leading};
+ghost use Rattle.fields.specs.Field.{digit};
+ghost use Rattle.characters.specs.Characters.{hex, filledTo};
+
+fn is_digit(b: u8) -> bool
+    ensures { λ r. ⌜ r ≡ digit b ⌝ }
+{
+    (48 <= b) & (b <= 57)
+}
+
+fn is_hex_digit(b: u8) -> bool
+    ensures { λ r. ⌜ r ≡ hex b ⌝ }
+{
+    is_digit(b) | ((65 <= b) & (b <= 70))
+}
+
+fn all_hex(s: &[u8]) -> bool
+    ensures { λ r. ⌜ r ≡ all hex (now (s .entry)) ⌝ }
+{
+    let mut i: usize = 0;
+    while i < s.len() {
+        if !is_hex_digit(s[i]) {
+            return false;
+        }
+        i += 1;
+    }
+    true
+}
+
+pub fn is_hex(f: &[u8], n: usize) -> bool
+    ensures { λ r. ⌜ r ≡ run hex n (now (f .entry)) ⌝ }
+{
+    (f.len() == n) & all_hex(f)
+}
+
+// How many digits stand in front.
+pub fn digits_in(f: &[u8]) -> usize
+    ensures { λ r. ⌜ r ≡ leading digit (now (f .entry)) ⌝ }
+{
+    let mut i: usize = 0;
+    while i < f.len() {
+        if !is_digit(f[i]) {
+            return i;
+        }
+        i += 1;
+    }
+    i
+}
+
+// At least one character, k in all, and blanks behind them.
+pub fn is_filled(f: &[u8], k: usize) -> bool
+    ensures { λ r. ⌜ r ≡ filledTo k (now (f .entry)) ⌝ }
+{
+    if f.len() < k {
+        return false;
+    }
+    (0 < k) & fields::is_blanks(&f[k..], f.len() - k)
+}
