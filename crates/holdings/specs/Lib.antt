@@ -1,2 +1,4 @@
 pub mod Holdings
 pub mod Storing
+pub mod Room
+pub mod Outcomes

@@ -1,0 +1,88 @@
+-- What the functions of this crate cite. Assumes nothing.
+use mathlib.Core.Path.{_≡_, refl, sym, ap, _∙_}
+use mathlib.Core.Bool.{Bool, true, false, not, _&&_}
+use mathlib.Core.List.{List}
+use Prim.Native.Nat.{ℕ, _+_, _-_, _≤_, _<_}
+use native.Mathlib.Omega.{arith}
+use lib.Dec.{ltb}
+use lib.ListN.{length}
+use borrow.Author.Tests.{lt-ltb, le-ltb, eq-eqb, ne-eqb}
+use Rattle.theory.specs.Walk.{some}
+use Rattle.theory.specs.Count.{bump}
+use Rattle.theory.specs.Keep.{sift, sift-counts}
+use Rattle.theory.specs.Parts.{chop, length-chop}
+use Rattle.theory.specs.Pick.{good, good-no, pick}
+use Rattle.theory.specs.Tally.{tally, tally-pick, tallies}
+use Rattle.theory.specs.Place.{place-some}
+use Rattle.columns.specs.Columns.{panOf}
+use Rattle.register.specs.Register.{slotLength, slotsIn, slotsOf, records, usedIn, usedPart}
+use Rattle.register.specs.Laws.{used-slots, slots-used}
+use Rattle.register.specs.Search.{holdsPan, placeOf, of, countOf}
+use Rattle.holdings.specs.Holdings.{others, isFull}
+use Rattle.holdings.specs.Storing.{isNew}
+use Rattle.holdings.specs.Room.{usedAfter}
+
+pub length-slots : (b : List ℕ) → length (slotsOf b) ≡ slotsIn b
+unfolding slotsOf
+length-slots b = length-chop slotLength (slotsIn b) b
+
+-- i is the place that a search for the PAN p of the line l found
+module _ (b l p : List ℕ) (e : p ≡ panOf l) (i : ℕ) (f : i ≡ placeOf p (slotsOf b)) where
+  held-is : some (holdsPan (panOf l)) (slotsOf b) ≡ ltb i (slotsIn b)
+  unfolding placeOf
+  held-is = place-some (holdsPan (panOf l)) (slotsOf b) ∙ rw (length-slots b, f, e)
+
+  -- v is the line's verdict
+  pub counts-held : (v : ℕ) → i < slotsIn b → 0 ≡ bump (good v && isNew (slotsOf b) l) 0
+  unfolding bump
+  counts-held v h = rw (held-is, lt-ltb i (slotsIn b) h) (neither (good v))
+    where
+      neither : (g : Bool) → 0 ≡ bump (g && false) 0
+      neither true = refl
+      neither false = refl
+
+  pub counts-new : (v : ℕ) → v ≡ 0 → slotsIn b ≤ i → 1 ≡ bump (good v && isNew (slotsOf b) l) 0
+  unfolding bump good
+  counts-new v z h = rw (z, held-is, le-ltb i (slotsIn b) h)
+
+pub counts-rejected : (v : ℕ) (n : Bool) → (v ≡ 0 → ⊥) → 0 ≡ bump (good v && n) 0
+unfolding bump
+counts-rejected v n h = rw (good-no v h)
+
+-- the others are those that are not his
+pub others-count : (who : List ℕ) (R : List (List ℕ)) → length (others who R) ≡ length R - countOf who R
+unfolding others countOf
+others-count who R = omega (arith, sift-counts (of who) R)
+
+pub count-most : (who : List ℕ) (R : List (List ℕ)) → countOf who R ≤ length R
+unfolding countOf
+count-most who R = omega (arith, sift-counts (of who) R)
+
+pub taken-most : (vs : List ℕ) (t : ℕ) → t ≡ tally good vs → t ≤ length vs
+taken-most vs t e = omega (arith, tallies vs)
+
+-- held is the used part of the register b
+module _ (b held : List ℕ) (e : held ≡ usedPart b) where
+  pub held-used : slotsIn held ≡ usedIn b
+  held-used = rw e (used-slots b)
+
+  held-slots : slotsOf held ≡ records b
+  held-slots = rw e (slots-used b)
+
+  module _ (who : List ℕ) (k : ℕ) (f : k ≡ countOf who (slotsOf held)) where
+    pub his-most : k ≤ slotsIn held
+    his-most = omega (arith, count-most who (slotsOf held), length-slots held)
+
+    -- t lines were taken
+    pub full-used : (mode : ℕ) → mode ≡ 2 → (vs lines : List ℕ) (t : ℕ) → t ≡ tally good vs
+        → slotsIn held - k + t ≡ usedAfter mode who (records b) (pick good vs (chop 128 (length vs) lines))
+    unfolding usedAfter isFull
+    full-used mode m vs lines t g =
+        sym (rw (eq-eqb mode 2 m, others-count who (records b), tally-pick good vs (chop 128 (length vs) lines) (sym (length-chop 128 (length vs) lines)), ← g, ← held-slots, ← f, length-slots held))
+
+  -- k lines are new
+  pub incremental-used : (mode : ℕ) → (mode ≡ 2 → ⊥) → (who vs lines : List ℕ) (k : ℕ)
+      → k ≡ length (sift (isNew (slotsOf held)) (pick good vs (chop 128 (length vs) lines)))
+      → slotsIn held + k ≡ usedAfter mode who (records b) (pick good vs (chop 128 (length vs) lines))
+  unfolding usedAfter isFull
+  incremental-used mode m who vs lines k g = sym (rw (ne-eqb mode 2 m, ← held-slots, ← g, length-slots held))
