@@ -7,7 +7,7 @@ use lib.ListN.{length}
 use Rattle.theory.specs.Text.{bytes}
 use Rattle.texts.specs.Field.{field, lineEnd}
 use Rattle.texts.specs.Laws.{field-length}
-use Rattle.texts.specs.Put.{putField, written-start, written-next, written-end}
+use Rattle.writing.specs.Put.{putField, written-start, written-next, written-end}
 use Rattle.columns.specs.Columns.{validTo}
 use Rattle.lines.specs.End.{endOf, recordOf}
 use Rattle.records.specs.Written.{length-end}

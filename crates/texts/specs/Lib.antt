@@ -1,4 +1,3 @@
 pub mod Field
 pub mod Laws
-pub mod Put
 pub mod Outcomes
