@@ -18,7 +18,7 @@ fn put_slot(block: &mut [u8], i: usize, slot: &[u8])
 {
     let at = i * SLOT;
     let behind = at + SLOT;
-    texts::copy(&mut block[at..behind], slot);
+    writing::copy(&mut block[at..behind], slot);
 }
 
 // The bytes of slot i into slot k.
@@ -27,7 +27,7 @@ fn move_slot(block: &mut [u8], i: usize, k: usize)
     ensures { λ _. ⌜ now (block .exit) ≡ putPart 128 k (partAt 128 i (now (block .entry))) (now (block .entry)) ⌝ }
 {
     let mut slot = [0u8; SLOT];
-    texts::copy(&mut slot, texts::part(block, SLOT, i));
+    writing::copy(&mut slot, texts::part(block, SLOT, i));
     put_slot(block, k, &slot);
 }
 

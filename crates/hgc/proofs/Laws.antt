@@ -13,8 +13,8 @@ use Rattle.theory.specs.Tally.{tally}
 use Rattle.theory.specs.Join.{flat, flat-append, chop-snoc, each-chop}
 use Rattle.texts.specs.Field.{field, lineEnd}
 use Rattle.texts.specs.Laws.{field-length}
-use Rattle.texts.specs.Put.{putField}
-use Rattle.texts.specs.Laid.{Laid, laid, laid-start, laid-join, laid-next, laid-front, laid-length}
+use Rattle.writing.specs.Put.{putField}
+use Rattle.writing.specs.Laid.{Laid, laid, laid-start, laid-join, laid-next, laid-front, laid-length}
 use Rattle.numbers.specs.Number.{decimal}
 use Rattle.numbers.specs.Laws.{length-decimal}
 use Rattle.columns.specs.Columns.{text}

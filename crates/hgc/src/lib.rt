@@ -10,8 +10,8 @@ ghost use Rattle.theory.specs.Parts.{chop};
 ghost use Rattle.theory.specs.Pick.{good, bad};
 ghost use Rattle.theory.specs.Tally.{tally};
 ghost use Rattle.theory.specs.Join.{flat};
-ghost use Rattle.texts.specs.Put.{putField};
-ghost use Rattle.texts.specs.Laid.{Laid};
+ghost use Rattle.writing.specs.Put.{putField};
+ghost use Rattle.writing.specs.Laid.{Laid};
 ghost use Rattle.hgv.specs.Layout.{linesIn, lengthHolds};
 ghost use Rattle.hgc.specs.Confirmation.{confirmationLength, zeros, outcome, names, counts, answer, said, answers, foot, confirmation};
 
@@ -56,11 +56,11 @@ fn put_names(hgc: &mut [u8], reception: &[u8], hgv: &[u8])
         header::columns::SEQUENCE_FROM,
         header::columns::SEQUENCE_TO,
     );
-    texts::put_field(hgc, places::HEADER_TYPE, b"0");
-    texts::put_field(hgc, places::SENDER_FROM, b"000002");
-    texts::put_field(hgc, places::RECEIVER_FROM, sender);
-    texts::put_field(hgc, places::SEQUENCE_FROM, sequence);
-    texts::put_field(hgc, places::RECEPTION_FROM, reception);
+    writing::put_field(hgc, places::HEADER_TYPE, b"0");
+    writing::put_field(hgc, places::SENDER_FROM, b"000002");
+    writing::put_field(hgc, places::RECEIVER_FROM, sender);
+    writing::put_field(hgc, places::SEQUENCE_FROM, sequence);
+    writing::put_field(hgc, places::RECEPTION_FROM, reception);
 }
 
 fn put_outcome(hgc: &mut [u8], rejected: u64)
@@ -68,10 +68,10 @@ fn put_outcome(hgc: &mut [u8], rejected: u64)
     ensures { λ _. ⌜ now (hgc .exit) ≡ putField 108 (outcome rejected) (now (hgc .entry)) ⌝ }
 {
     if rejected == 0 {
-        texts::put_field(hgc, places::OUTCOME_FROM, b"00");
+        writing::put_field(hgc, places::OUTCOME_FROM, b"00");
         return;
     }
-    texts::put_field(hgc, places::OUTCOME_FROM, b"01");
+    writing::put_field(hgc, places::OUTCOME_FROM, b"01");
 }
 
 // The header from the counts on.
@@ -81,10 +81,10 @@ fn put_counts(hgc: &mut [u8], taken: u64, rejected: u64)
 {
     numbers::put_number(hgc, places::TAKEN_FROM, COUNT, taken);
     numbers::put_number(hgc, places::REJECTED_FROM, COUNT, rejected);
-    texts::put_field(hgc, places::VERSION_FROM, b"120001");
+    writing::put_field(hgc, places::VERSION_FROM, b"120001");
     put_zeros(hgc, places::FILLER_FROM, HEADER_ZEROS);
     put_outcome(hgc, rejected);
-    texts::put_field(hgc, places::HEADER_END, b"\n");
+    writing::put_field(hgc, places::HEADER_END, b"\n");
 }
 
 fn put_answer(hgc: &mut [u8], from: usize, line: &[u8], reason: u8)
@@ -93,10 +93,10 @@ fn put_answer(hgc: &mut [u8], from: usize, line: &[u8], reason: u8)
 {
     let at = from - 1;
     let text = texts::field(line, places::TEXT_FROM, places::TEXT_TO);
-    texts::put_field(hgc, at + places::LINE_TYPE, b"1");
-    texts::put_field(hgc, at + places::TEXT_FROM, text);
+    writing::put_field(hgc, at + places::LINE_TYPE, b"1");
+    writing::put_field(hgc, at + places::TEXT_FROM, text);
     numbers::put_number(hgc, at + places::REASON_FROM, REASON, reason as u64);
-    texts::put_field(hgc, at + places::LINE_END, b"\n");
+    writing::put_field(hgc, at + places::LINE_END, b"\n");
 }
 
 // The answer to a line, where its verdict rejects it; the position behind.
@@ -130,9 +130,9 @@ fn put_foot(hgc: &mut [u8], from: usize)
     ensures { λ _. ⌜ now (hgc .exit) ≡ putField from foot (now (hgc .entry)) ⌝ }
 {
     let at = from - 1;
-    texts::put_field(hgc, at + places::FOOTER_TYPE, b"2");
+    writing::put_field(hgc, at + places::FOOTER_TYPE, b"2");
     put_zeros(hgc, at + places::ZEROS_FROM, FOOTER_ZEROS);
-    texts::put_field(hgc, at + places::FOOTER_END, b"\n");
+    writing::put_field(hgc, at + places::FOOTER_END, b"\n");
 }
 
 // The confirmation in front of the block; what lies behind it stays as it was.

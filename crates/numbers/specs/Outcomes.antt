@@ -3,7 +3,7 @@ use mathlib.Core.Path.{_≡_}
 use mathlib.Core.List.{List}
 use Prim.Native.Nat.{ℕ}
 use Rattle.theory.specs.Outcome.{one-outcome}
-use Rattle.texts.specs.Put.{putField}
+use Rattle.writing.specs.Put.{putField}
 use Rattle.numbers.specs.Number.{number, decimal}
 
 pub number-one : (f : List ℕ) (r s : ℕ) → r ≡ number f → s ≡ number f → r ≡ s

@@ -2,7 +2,7 @@
 ghost use mathlib.Core.Path.{_≡_};
 ghost use Prim.Native.Nat.{_+_, _-_, _≤_};
 ghost use lib.ListN.{length};
-ghost use Rattle.texts.specs.Put.{putField};
+ghost use Rattle.writing.specs.Put.{putField};
 ghost use Rattle.numbers.specs.Number.{number, decimal};
 
 // What a byte counts as a digit: 0 below '0'.

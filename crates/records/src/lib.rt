@@ -2,7 +2,7 @@
 ghost use mathlib.Core.Path.{_≡_};
 ghost use Prim.Native.Nat.{_≤_};
 ghost use lib.ListN.{length};
-ghost use Rattle.texts.specs.Put.{putField};
+ghost use Rattle.writing.specs.Put.{putField};
 ghost use Rattle.lines.specs.End.{endOf, recordOf};
 ghost use Rattle.records.specs.Slot.{written, putRecord};
 
@@ -22,10 +22,10 @@ fn put_end(slot: &mut [u8], given: &[u8], reception: &[u8])
     ensures { λ _. ⌜ now (slot .exit) ≡ putField 101 (endOf (now (reception .entry)) (now (given .entry))) (now (slot .entry)) ⌝ }
 {
     if fields::is_zeros(given, TIME) | times::is_earlier(reception, given) {
-        texts::put_field(slot, columns::VALID_TO_FROM, given);
+        writing::put_field(slot, columns::VALID_TO_FROM, given);
         return;
     }
-    texts::put_field(slot, columns::VALID_TO_FROM, reception);
+    writing::put_field(slot, columns::VALID_TO_FROM, reception);
 }
 
 // Every byte of the slot is written.
@@ -36,11 +36,11 @@ fn fill_slot(slot: &mut [u8], line: &[u8], reception: &[u8])
     let front = texts::field(line, columns::ACTOR_FROM, columns::WEIGHT_TO);
     let given = texts::field(line, columns::VALID_TO_FROM, columns::VALID_TO_TO);
     let rest = texts::field(line, columns::SEPARATOR_FROM, columns::FILLER_TO);
-    texts::put_field(slot, IDENTIFIER, b"1");
-    texts::put_field(slot, columns::ACTOR_FROM, front);
+    writing::put_field(slot, IDENTIFIER, b"1");
+    writing::put_field(slot, columns::ACTOR_FROM, front);
     put_end(slot, given, reception);
-    texts::put_field(slot, columns::SEPARATOR_FROM, rest);
-    texts::put_field(slot, LINE_END, b"\n");
+    writing::put_field(slot, columns::SEPARATOR_FROM, rest);
+    writing::put_field(slot, LINE_END, b"\n");
 }
 
 // The record of a line written into its slot; a slot or a reception of another length, or a line that is too short,

@@ -1,12 +1,11 @@
 -- Laws of the definitions of specs/, in the form that the functions use. Assumes nothing.
-use mathlib.Core.Path.{_≡_, refl, sym, _∙_}
+use mathlib.Core.Path.{_≡_, sym, _∙_}
 use mathlib.Core.Bool.{Bool, true, false, _||_}
 use mathlib.Core.List.{List}
 use Prim.Native.Nat.{ℕ, _<_, _≤_, _+_, _-_, _/_}
 use native.Mathlib.Omega.{arith}
-use native.Mathlib.Numerals.{add-one}
-use lib.ListN.{length, take, drop, getD, set, length-drop, drop-of-length-le}
-use lib.Seq.{take-all, take-nil, take-suc, take-suc-set}
+use lib.ListN.{length, take, drop, length-drop, drop-of-length-le}
+use lib.Seq.{take-all, take-nil}
 use Rattle.theory.specs.Same.{eqs, mem}
 use Rattle.theory.specs.Parts.{chop, partAt, partsFrom, parts-start, parts-step, parts-end}
 use Rattle.texts.specs.Field.{field, listed}
@@ -50,23 +49,3 @@ module _ (w : ℕ) (table f : List ℕ) where
       pub search-on : r ≡ false → Searching w table f (i + 1)
       unfolding Searching mem
       search-on t = v ∙ rw (parts-step w (length table / w) table i h, ← p, ← e, t)
-
--- ---- a text copied
-
--- the first i bytes are
-unfoldable pub Copied : List ℕ → List ℕ → ℕ → Type 0
-Copied to from i = take i to ≡ take i from
-
-module _ (to from : List ℕ) where
-  pub copied-start : Copied to from 0
-  unfolding Copied
-  copied-start = refl
-
-  module _ (i : ℕ) (v : Copied to from i) where
-    pub copied-turn : i < length to → i < length from → Copied (set to i (getD from i 0)) from (i + 1)
-    unfolding Copied
-    copied-turn h k = rw (add-one, take-suc-set to i (getD from i 0), take-suc from i 0, v)
-
-    pub copied-end : length to ≤ i → length from ≤ i → to ≡ from
-    unfolding Copied
-    copied-end h k = sym (take-all i to h) ∙ v ∙ take-all i from k

@@ -7,7 +7,6 @@ use Rattle.theory.specs.Outcome.{one-outcome}
 use Rattle.theory.specs.Same.{eqs}
 use Rattle.theory.specs.Parts.{partAt}
 use Rattle.texts.specs.Field.{field, listed}
-use Rattle.texts.specs.Put.{putField}
 
 pub field-one : (text : List ℕ) (from to : ℕ) (r s : List ℕ) → r ≡ field from to text → s ≡ field from to text → r ≡ s
 field-one text from to r s = one-outcome
@@ -21,10 +20,3 @@ same-one a b r s = one-outcome
 
 pub listed-one : (width : ℕ) (table f : List ℕ) (r s : Bool) → r ≡ listed width table f → s ≡ listed width table f → r ≡ s
 listed-one width table f r s = one-outcome
-
--- the text after copy, and after put_field
-pub copy-one : (from r s : List ℕ) → r ≡ from → s ≡ from → r ≡ s
-copy-one from r s = one-outcome
-
-pub put-one : (from : ℕ) (f text r s : List ℕ) → r ≡ putField from f text → s ≡ putField from f text → r ≡ s
-put-one from f text r s = one-outcome

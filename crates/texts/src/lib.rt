@@ -1,12 +1,10 @@
-// Where a text stands in another: fields by their positions, parts of a block, entries of a table; two texts compared,
-// and one written over another.
+// Where a text stands in another: fields by their positions, parts of a block, entries of a table; two texts compared.
 ghost use mathlib.Core.Path.{_≡_};
-ghost use Prim.Native.Nat.{_+_, _*_, _-_, _≤_, _<_};
+ghost use Prim.Native.Nat.{_+_, _*_, _≤_, _<_};
 ghost use lib.ListN.{length};
 ghost use Rattle.theory.specs.Same.{eqs};
 ghost use Rattle.theory.specs.Parts.{partAt};
 ghost use Rattle.texts.specs.Field.{field, listed};
-ghost use Rattle.texts.specs.Put.{putField};
 
 // Positions `from` to `to` of a text, counted from 1.
 pub fn field<'a>(text: &'a [u8], from: usize, to: usize) -> &'a [u8]
@@ -71,26 +69,4 @@ pub fn listed(f: &[u8], width: usize, table: &[u8]) -> bool
         i += 1;
     }
     false
-}
-
-// The bytes of a text into another of its length.
-pub fn copy(to: &mut [u8], from: &[u8])
-    requires { ⌜ length (now to) ≡ length (now from) ⌝ }
-    ensures { λ _. ⌜ now (to .exit) ≡ now (from .entry) ⌝ }
-{
-    let mut i: usize = 0;
-    while i < from.len() {
-        to[i] = from[i];
-        i += 1;
-    }
-}
-
-// A field written into a text from a position on, counted from 1.
-pub fn put_field(text: &mut [u8], from: usize, f: &[u8])
-    requires { ⌜ (1 ≤ from) × (from - 1 + length (now f) ≤ length (now text)) ⌝ }
-    ensures { λ _. ⌜ now (text .exit) ≡ putField from (now (f .entry)) (now (text .entry)) ⌝ }
-{
-    let at = from - 1;
-    let behind = at + f.len();
-    copy(&mut text[at..behind], f);
 }

@@ -1,7 +1,7 @@
 -- Assumes nothing.
 use mathlib.Core.Path.{_∙_}
 use borrow.Author.Needs.{needs}
-use Rattle.texts.specs.Put.{put-ap}
+use Rattle.writing.specs.Put.{put-ap}
 use Rattle.hgc.specs.Laws.{decimal-zeros}
 use Rattle.hgc.proofs.put_zeros.Statement.{statement}
 use Rattle.hgc.proofs.put_zeros.Tie as tie

@@ -1,7 +1,7 @@
 -- Assumes nothing.
 use borrow.Author.Needs.{needs}
 use mathlib.Core.Path.{_∙_}
-use Rattle.texts.specs.Put.{put-ap}
+use Rattle.writing.specs.Put.{put-ap}
 use Rattle.records.specs.Written.{end-stays, end-cut}
 use Rattle.records.proofs.put_end.Statement.{statement}
 use Rattle.records.proofs.put_end.Tie as tie

@@ -1,9 +1,9 @@
 -- Assumes nothing.
 use borrow.Author.Needs.{needs}
 use mathlib.Core.Path.{refl}
-use Rattle.texts.specs.Put.{put-lent}
-use Rattle.texts.proofs.put_field.Statement.{statement}
-use Rattle.texts.proofs.put_field.Tie as tie
+use Rattle.writing.specs.Put.{put-lent}
+use Rattle.writing.proofs.put_field.Statement.{statement}
+use Rattle.writing.proofs.put_field.Tie as tie
 
 returns : tie.Need-returns
 returns c = put-lent _ _ _ _ _ (c .before .before .copy .ensures) refl

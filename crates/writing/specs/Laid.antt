@@ -5,7 +5,7 @@ use Prim.Native.Nat.{ℕ, _+_, _-_, _≤_}
 use native.Mathlib.Omega.{arith}
 use lib.ListN.{length, take, drop, length-append, length-take, length-drop, take-append-drop}
 use lib.Seq.{length-take-le, take-at, drop-append-add, drop-drop}
-use Rattle.texts.specs.Put.{putField}
+use Rattle.writing.specs.Put.{putField}
 
 -- w is written from position p on, q is the position behind it, and all else is as in the text before
 pub record Laid (p q : ℕ) (w before text : List ℕ) : Type 0 where

@@ -4,9 +4,9 @@ use mathlib.Core.Path.{_≡_}
 use Prim.Native.Nat.{_≤_, _-_}
 use native.Mathlib.Omega.{arith}
 use lib.ListN.{length, length-set}
-use Rattle.texts.proofs.Laws.{Copied, copied-start, copied-turn, copied-end}
-use Rattle.texts.proofs.copy.Statement.{statement}
-use Rattle.texts.proofs.copy.Tie as tie
+use Rattle.writing.proofs.Laws.{Copied, copied-start, copied-turn, copied-end}
+use Rattle.writing.proofs.copy.Statement.{statement}
+use Rattle.writing.proofs.copy.Tie as tie
 
 abbrev Inv-loop : tie.InvT-loop
 Inv-loop to₀ from i₀ to i = (i ≤ length from) × ((length to ≡ length from) × Copied to from i)
