@@ -1,0 +1,12 @@
+-- Assumes nothing.
+use mathlib.Core.Path.{refl}
+use Rattle.importer.specs.Import.{refusal}
+use Rattle.importer.proofs.refused.Statement.{statement}
+use Rattle.importer.proofs.refused.Tie as tie
+
+returns : tie.Need-returns
+unfolding refusal
+returns c = refl
+
+pub refused-spec : {M : Type 1} → statement M
+refused-spec = tie.close (tie.spec returns)
