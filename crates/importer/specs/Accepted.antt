@@ -93,3 +93,12 @@ module _ (mode : ℕ) (reception register rows h : List ℕ) (c : Clear mode rec
     pub confirmed-length : (r : ℕ) → r ≡ tally bad vs → length (confirmed reception register rows h) ≡ confirmationLength r
     unfolding confirmed
     confirmed-length r f = rw (← e, f) (length-confirmation reception h vs (real-length reception (c .received)) (c .sized) verdict-each)
+
+-- the file's form is right, its lines are judged, and there is room for what follows
+pub record Accepted (mode : ℕ) (reception register rows h hgc vs : List ℕ) (t r : ℕ) : Type 0 where
+  pub clear : Clear mode reception register rows h
+  pub verdicts : vs ≡ judged register rows h
+  pub taken-are : t ≡ tally good vs
+  pub rejected-are : r ≡ tally bad vs
+  pub slots : length (following mode reception register rows h) ≤ slotsIn register
+  pub buffer : length (confirmed reception register rows h) ≤ length hgc

@@ -69,12 +69,15 @@ answer mode reception register rows h hgc =
     unlessStopped n (success reception register rows h) (refusal n)
 
 -- the records that follow, and free slots behind them
+unfoldable pub written : ℕ → List ℕ → List ℕ → List ℕ → List ℕ → List ℕ
+written mode reception register rows h = flat (pad slotLength (slotsIn register) (following mode reception register rows h))
+
 unfoldable pub registerAfter : ℕ → List ℕ → List ℕ → List ℕ → List ℕ → List ℕ → List ℕ
-registerAfter mode reception register rows h hgc =
-    unlessStopped (numberOf mode reception register rows h hgc) (flat (pad slotLength (slotsIn register) (following mode reception register rows h))) register
+registerAfter mode reception register rows h hgc = unlessStopped (numberOf mode reception register rows h hgc) (written mode reception register rows h) register
 
 -- the confirmation in front; bytes beyond it keep their values
+unfoldable pub told : List ℕ → List ℕ → List ℕ → List ℕ → List ℕ → List ℕ
+told reception register rows h hgc = let c : List ℕ = confirmed reception register rows h in c ++ drop (length c) hgc
+
 unfoldable pub hgcAfter : ℕ → List ℕ → List ℕ → List ℕ → List ℕ → List ℕ → List ℕ
-hgcAfter mode reception register rows h hgc =
-    let c : List ℕ = confirmed reception register rows h in
-    unlessStopped (numberOf mode reception register rows h hgc) (c ++ drop (length c) hgc) hgc
+hgcAfter mode reception register rows h hgc = unlessStopped (numberOf mode reception register rows h hgc) (told reception register rows h hgc) hgc

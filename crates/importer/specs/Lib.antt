@@ -1,2 +1,3 @@
 pub mod Import
 pub mod Accepted
+pub mod Numbers

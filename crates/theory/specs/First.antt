@@ -83,6 +83,22 @@ unfoldable pub otherwise : ℕ → ℕ → ℕ
 otherwise zero m = m
 otherwise (suc n) m = suc n
 
+-- what is not 0 stands
+pub otherwise-stands : (m n : ℕ) → (m ≡ 0 → ⊥) → otherwise m n ≡ m
+unfolding otherwise
+otherwise-stands zero n h = absurd (h refl)
+otherwise-stands (suc m) n h = refl
+
+pub otherwise-next : (m n : ℕ) → m ≡ 0 → otherwise m n ≡ n
+unfolding otherwise
+otherwise-next m n h = rw h
+
+-- 0 only where both are
+pub otherwise-none : (m n : ℕ) → otherwise m n ≡ 0 → (m ≡ 0) × (n ≡ 0)
+unfolding otherwise
+otherwise-none zero n h = (refl, h)
+otherwise-none (suc m) n h = absurd (omega arith)
+
 pub first-append : (rs qs : List Rule) → numbered rs ≡ true → first (rs ++ qs) ≡ otherwise (first rs) (first qs)
 unfolding first choose numbered otherwise
 first-append [] qs n = refl

@@ -5,7 +5,7 @@ use mathlib.Core.List.{List, [], _∷_, _++_, map}
 use Prim.Native.Nat.{ℕ, zero, suc, _+_, _≤_}
 use native.Mathlib.Omega.{arith}
 use lib.ListN.{length}
-use Rattle.theory.specs.First.{Rule, _if_, first, first-append, first-clear, first-most, numbered, numberedTo, none-head, otherwise, choose}
+use Rattle.theory.specs.First.{Rule, _if_, first, first-append, first-clear, first-most, numbered, numberedTo, otherwise, otherwise-none, choose}
 use Rattle.theory.specs.Same.{eqs, mem}
 use Rattle.theory.specs.Each.{Each}
 use Rattle.theory.specs.Walk.{some}
@@ -21,12 +21,6 @@ use Rattle.hgv.specs.Layout.{linesIn, linesOf}
 use Rattle.hgv.specs.Laws.{length-lines}
 use Rattle.header.specs.Header.{sender}
 use Rattle.verdicts.specs.Verdict.{ownRules, verdictRules, verdict, verdictsOf, fileVerdicts, taken}
-
--- 0 only where both are
-both : (m n : ℕ) → otherwise m n ≡ 0 → (m ≡ 0) × (n ≡ 0)
-unfolding otherwise
-both zero n h = (refl, h)
-both (suc m) n h = absurd (omega arith)
 
 unchosen : (b : Bool) (n : ℕ) → choose b (suc n) 0 ≡ 0 → b ≡ false
 unfolding choose
@@ -57,17 +51,17 @@ module _ (rows from : List ℕ) (R : List (List ℕ)) where
   -- a taken line breaks none of L1 to L10, no other actor holds its PAN, and no line taken before it has that
   module _ (ts : List (List ℕ)) (l : List ℕ) (v : verdict rows from R ts l ≡ 0) where
     own : first (ownRules rows from R l) ≡ 0
-    own = both (first (ownRules rows from R l)) _ (sym (verdict-is l ts) ∙ v) .0
+    own = otherwise-none (first (ownRules rows from R l)) _ (sym (verdict-is l ts) ∙ v) .0
 
     pub taken-faultless : Faultless rows from l
-    taken-faultless = faultless rows from l (both (lineFault rows from l) _ (sym (own-is l) ∙ own) .0)
+    taken-faultless = faultless rows from l (otherwise-none (lineFault rows from l) _ (sym (own-is l) ∙ own) .0)
 
     pub taken-free : heldByAnother (panOf l) from R ≡ false
-    taken-free = unchosen _ 3 (both (lineFault rows from l) _ (sym (own-is l) ∙ own) .1)
+    taken-free = unchosen _ 3 (otherwise-none (lineFault rows from l) _ (sym (own-is l) ∙ own) .1)
 
     pub taken-first : mem (panOf l) (map panOf ts) ≡ false
     unfolding holdsPan
-    taken-first = sym (some-key panOf (panOf l) ts) ∙ unchosen _ 0 (both (first (ownRules rows from R l)) _ (sym (verdict-is l ts) ∙ v) .1)
+    taken-first = sym (some-key panOf (panOf l) ts) ∙ unchosen _ 0 (otherwise-none (first (ownRules rows from R l)) _ (sym (verdict-is l ts) ∙ v) .1)
 
 module _ (rows : List ℕ) (R : List (List ℕ)) (h : List ℕ) where
   abbrev judge : List (List ℕ) → List ℕ → ℕ
