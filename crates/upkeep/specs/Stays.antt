@@ -27,7 +27,7 @@ use Rattle.records.specs.Holds.{record-long, record-holds}
 use Rattle.records.specs.Slot.{putRecord, put-there}
 use Rattle.closing.specs.Closing.{closedUp, closed-front}
 use Rattle.register.specs.Register.{slotLength, slotsMost, slotsIn, marked, usedForm, records, usedIn, inOrder}
-use Rattle.register.specs.Laws.{Ordered, ordered, used-most, records-pad, order-pad}
+use Rattle.register.specs.Laws.{Ordered, ordered, used-most, slots-pad, records-pad, order-pad}
 
 -- ---- what is written
 
@@ -57,14 +57,19 @@ pub record Holds (n : ℕ) (R : List (List ℕ)) (b : List ℕ) : Type 0 where
   pub order : inOrder b ≡ true
   pub held : records b ≡ R
   pub bytes : b ≡ flat (pad slotLength n R)
+  pub many : slotsIn b ≡ n
 
 holds : (n : ℕ) {R : List (List ℕ)} → Each (λ r. length r ≡ slotLength) R → Each (λ r. usedForm r ≡ true) R → distinct (map panOf R) ≡ true → length R ≤ n → n ≤ slotsMost
     → (b : List ℕ) → b ≡ flat (pad slotLength n R) → Holds n R b
-holds n z u d l m b e = record { order = rw e (order-pad n z l u d m); held = rw e (records-pad n z l u); bytes = e }
+holds n z u d l m b e = record { order = rw e (order-pad n z l u d m); held = rw e (records-pad n z l u); bytes = e; many = rw e (slots-pad n z l) }
 
 module _ (b : List ℕ) (h : inOrder b ≡ true) where
   o : Ordered b
   o = ordered b h
+
+  -- it holds its own records
+  pub as-it-is : Holds (slotsIn b) (records b) b
+  as-it-is = record { order = h; held = refl; bytes = o .padded; many = refl }
 
   module _ (x : List ℕ) (w : length x ≡ slotLength) (f : usedForm x ≡ true) where
     -- a record replaced by one with its PAN

@@ -1,0 +1,197 @@
+-- One line stored, and all of them. Assumes nothing.
+use mathlib.Core.Path.{_≡_, refl, sym, ap, _∙_}
+use mathlib.Core.Bool.{Bool, true, false, false≢true}
+use mathlib.Core.List.{List, [], _∷_, _++_, map}
+use Prim.Native.Nat.{ℕ, suc, _+_, _*_, _≤_, _<_}
+use native.Mathlib.Omega.{arith}
+use native.Mathlib.Numerals.{add-one}
+use lib.Dec.{eqb, ltb}
+use lib.ListN.{length, take, getD, set, length-append, length-set}
+use borrow.Author.Tests.{eq-eqb, ne-eqb, ltb-true, ltb-false, le-ltb}
+use Rattle.theory.specs.Same.{eqs, eqs-true, mem}
+use Rattle.theory.specs.Each.{Each, none, more, each-head, each-tail}
+use Rattle.theory.specs.Count.{bump}
+use Rattle.theory.specs.Walk.{some}
+use Rattle.theory.specs.Keep.{onto}
+use Rattle.theory.specs.Pick.{good, pick, good-no}
+use Rattle.theory.specs.Parts.{chop, partAt}
+use Rattle.theory.specs.Place.{place, place-most, place-hit, place-some}
+use Rattle.theory.specs.Scan.{some-key}
+use Rattle.theory.specs.Among.{takenFrom, taken-start, taken-step, taken-end}
+use Rattle.theory.specs.Put.{putPart}
+use Rattle.columns.specs.Columns.{panOf}
+use Rattle.lines.specs.Rules.{recordHolds}
+use Rattle.lines.specs.End.{recordOf}
+use Rattle.records.specs.Slot.{putRecord}
+use Rattle.register.specs.Register.{slotLength, slotsMost, slotsIn, slotsOf, records, usedIn, usedPart}
+use Rattle.register.specs.Search.{holdsPan, placeOf}
+use Rattle.register.specs.Laws.{Ordered, ordered, used-most, used-fits, slots-used}
+use Rattle.holdings.specs.Holdings.{stored, storedAll, holdings}
+use Rattle.holdings.specs.Storing.{stored-held, stored-new, stored-grows, all-grows}
+use Rattle.upkeep.specs.Stays.{Holds, written-length, written-used, written-put, as-it-is, replaced, added}
+use Rattle.applying.specs.Fit.{Fit}
+use Rattle.applying.specs.Steps.{prepared, storedIf, Left, Ready, Storing}
+use Rattle.applying.specs.Taken.{record-pan, prepared-stored}
+
+-- ---- one line
+
+pub one-more : (i used : ℕ) → i ≡ used → used + 1 ≡ bump (eqb i used) used
+unfolding bump
+one-more i used h = rw (eq-eqb i used h) (add-one used)
+
+pub as-many : (i used : ℕ) → (i ≡ used → ⊥) → used ≡ bump (eqb i used) used
+unfolding bump
+as-many i used h = rw (ne-eqb i used h)
+
+module _ (t : Bool) (reception l b : List ℕ) (used : ℕ) (y : Ready t reception l b used) where
+  pub ready-fits : used * slotLength ≤ length b
+  ready-fits = rw (y .counted) (used-fits b)
+
+  pub ready-most : used ≤ slotsMost
+  ready-most = omega (arith, y .counted, used-most b, ordered b (y .order) .most)
+
+module _ (reception l b : List ℕ) (used : ℕ) (y : Ready true reception l b used) where
+  abbrev x : List ℕ
+  x = recordOf reception l
+
+  abbrev R : List (List ℕ)
+  R = records b
+
+  -- i is what the search in the used slots u found
+  place-is : (u : List ℕ) → u ≡ take (used * slotLength) b → (pan : List ℕ) → pan ≡ panOf l → (i : ℕ) → i ≡ placeOf pan (slotsOf u) → i ≡ placeOf (panOf x) R
+  unfolding usedPart
+  place-is u e pan f i g = g ∙ rw (e, f, y .counted, slots-used b, record-pan reception (y .received) l (y .line refl))
+
+  -- one in its place
+  put-held : placeOf (panOf x) R < length R → Left (slotsIn b) (stored x R) (putRecord (placeOf (panOf x) R) reception l b) (bump (eqb (placeOf (panOf x) R) used) used)
+  unfolding placeOf holdsPan bump
+  put-held k =
+      let i : ℕ = place (holdsPan (panOf x)) R in
+      let hit : panOf x ≡ panOf (getD R i []) = sym (eqs-true _ _ (place-hit (holdsPan (panOf x)) R k)) in
+      let p : putRecord i reception l b ≡ putPart slotLength i x b = written-put reception l (y .line refl) (y .received) i b (omega (arith, used-most b)) in
+      let n : eqb i used ≡ false = ne-eqb i used (λ e. omega (arith, y .counted)) in
+      rw (stored-held x R k, p, n)
+      (record {
+        holds = replaced b (y .order) x (written-length reception l (y .line refl) (y .received)) (written-used reception l (y .line refl) (y .received)) i k hit;
+        counted = y .counted ∙ sym (length-set R i x);
+      })
+
+  -- a new one behind them
+  put-new : placeOf (panOf x) R ≡ length R → Left (slotsIn b) (stored x R) (putRecord (placeOf (panOf x) R) reception l b) (bump (eqb (placeOf (panOf x) R) used) used)
+  unfolding placeOf holdsPan bump storedIf
+  put-new k =
+      let miss : some (holdsPan (panOf x)) R ≡ false = place-some (holdsPan (panOf x)) R ∙ rw k (le-ltb (length R) (length R) (omega arith)) in
+      let s : stored x R ≡ R ++ x ∷ [] = stored-new x R miss in
+      let g : length R < slotsIn b = omega (arith, ap length s, length-append R (x ∷ []), y .room) in
+      let p : putRecord (length R) reception l b ≡ putPart slotLength (length R) x b = written-put reception l (y .line refl) (y .received) (length R) b g in
+      let n : eqb (length R) used ≡ true = eq-eqb (length R) used (sym (y .counted)) in
+      rw (k, s, p, n)
+      (record {
+        holds = added b (y .order) x (written-length reception l (y .line refl) (y .received)) (written-used reception l (y .line refl) (y .received)) g (sym (some-key panOf (panOf x) R) ∙ miss);
+        counted = ap suc (y .counted) ∙ omega (arith, length-append R (x ∷ []));
+      })
+
+  pub put-line : (u : List ℕ) → u ≡ take (used * slotLength) b → (pan : List ℕ) → pan ≡ panOf l → (i : ℕ) → i ≡ placeOf pan (slotsOf u)
+      → (b′ : List ℕ) → b′ ≡ putRecord i reception l b → (r : ℕ) → r ≡ bump (eqb i used) used → Left (slotsIn b) (stored x R) b′ r
+  unfolding placeOf
+  put-line u e pan f i g b′ p r n = rw (n, p, place-is u e pan f i g) (go (ltb (placeOf (panOf x) R) (length R)) refl)
+    where
+      go : (t : Bool) → ltb (placeOf (panOf x) R) (length R) ≡ t → Left (slotsIn b) (stored x R) (putRecord (placeOf (panOf x) R) reception l b) (bump (eqb (placeOf (panOf x) R) used) used)
+      go true h = put-held (ltb-true (placeOf (panOf x) R) (length R) h)
+      go false h = put-new (omega (arith, ltb-false (placeOf (panOf x) R) (length R) h, place-most (holdsPan (panOf x)) R))
+
+-- ---- a line by its verdict
+
+module _ (v : ℕ) (reception l b : List ℕ) (used : ℕ) (y : Ready (good v) reception l b used) where
+  pub line-left : (v ≡ 0 → ⊥) → Left (slotsIn b) (storedIf (good v) (recordOf reception l) (records b)) b used
+  unfolding storedIf
+  line-left n = rw (good-no v n) (record { holds = as-it-is b (y .order); counted = y .counted })
+
+  pub line-ready : v ≡ 0 → Ready true reception l b used
+  unfolding good
+  line-ready e = rw e at y
+
+pub line-taken : (v : ℕ) (x : List ℕ) (R : List (List ℕ)) → v ≡ 0 → stored x R ≡ storedIf (good v) x R
+unfolding storedIf good
+line-taken v x R e = rw e
+
+-- ---- line after line
+
+module _ (reception : List ℕ) (n : ℕ) (goal : List (List ℕ)) (b : List ℕ) (used : ℕ) where
+  on-ready : (t : Bool) (l : List ℕ) (ls : List (List ℕ)) → Storing reception n goal (onto t l ls) b used → Ready t reception l b used
+  unfolding onto storedIf storedAll
+  on-ready true l ls s =
+      let g = all-grows (map (recordOf reception) ls) (stored (recordOf reception l) (records b)) in
+      record { order = s .order; counted = s .counted; received = s .received; line = λ e. each-head (s .lined); room = omega (arith, g, ap length (s .leads), s .room, s .many) }
+  on-ready false l ls s =
+      record { order = s .order; counted = s .counted; received = s .received; line = λ e. absurd (false≢true e); room = used-most b }
+
+  -- b′ and r are what the line left
+  on-turn : (t : Bool) (l : List ℕ) (ls : List (List ℕ)) → Storing reception n goal (onto t l ls) b used
+      → (b′ : List ℕ) (r : ℕ) → Left (slotsIn b) (storedIf t (recordOf reception l) (records b)) b′ r → Storing reception n goal ls b′ r
+  unfolding onto storedIf storedAll
+  on-turn t l ls s b′ r w =
+      record {
+        order = w .holds .order;
+        counted = w .counted ∙ ap length (sym (w .holds .held));
+        many = w .holds .many ∙ s .many;
+        received = s .received;
+        lined = lined t (s .lined);
+        leads = rw (w .holds .held) (leads t (s .leads));
+        room = s .room;
+      }
+    where
+      lined : (c : Bool) → Each (λ k. recordHolds k ≡ true) (onto c l ls) → Each (λ k. recordHolds k ≡ true) ls
+      lined true e = each-tail e
+      lined false e = e
+
+      leads : (c : Bool) → storedAll (records b) (map (recordOf reception) (onto c l ls)) ≡ goal
+          → storedAll (storedIf c (recordOf reception l) (records b)) (map (recordOf reception) ls) ≡ goal
+      leads true e = e
+      leads false e = e
+
+  -- no byte more or less
+  pub storing-length : (b₀ : List ℕ) (ls ks : List (List ℕ)) (m : ℕ) → Storing reception n goal ks b₀ m → Storing reception n goal ls b used → length b ≡ length b₀
+  storing-length b₀ ls ks m s₀ s = omega (arith, ordered b₀ (s₀ .order) .whole, ordered b (s .order) .whole, s₀ .many, s .many)
+
+  pub storing-end : (vs ls : List ℕ) (i : ℕ) → Storing reception n goal (takenFrom slotLength (length vs) vs ls i) b used → length vs ≤ i → Holds n goal b
+  unfolding storedAll
+  storing-end vs ls i s h =
+      let e : records b ≡ goal = rw (taken-end slotLength (length vs) vs ls i h) at (s .leads) in
+      rw (s .many, e) at (as-it-is b (s .order))
+
+  module _ (vs ls : List ℕ) where
+    pub storing-start : Storing reception n goal (pick good vs (chop slotLength (length vs) ls)) b used → Storing reception n goal (takenFrom slotLength (length vs) vs ls 0) b used
+    storing-start s = rw (taken-start slotLength (length vs) vs ls) at s
+
+    module _ (i : ℕ) (s : Storing reception n goal (takenFrom slotLength (length vs) vs ls i) b used) (h : i < length vs) (x : List ℕ) (p : x ≡ partAt slotLength i ls) where
+      step : Storing reception n goal (onto (good (getD vs i 0)) x (takenFrom slotLength (length vs) vs ls (i + 1))) b used
+      step = rw p (rw (taken-step slotLength (length vs) vs ls i h h) at s)
+
+      pub storing-ready : Ready (good (getD vs i 0)) reception x b used
+      storing-ready = on-ready (good (getD vs i 0)) x _ step
+
+      pub storing-turn : (b′ : List ℕ) (r : ℕ) → Left (slotsIn b) (storedIf (good (getD vs i 0)) (recordOf reception x) (records b)) b′ r
+          → Storing reception n goal (takenFrom slotLength (length vs) vs ls (i + 1)) b′ r
+      storing-turn = on-turn (good (getD vs i 0)) x _ step
+
+-- ---- all of them, into what was prepared
+
+module _ (mode : ℕ) (who reception b : List ℕ) (ls : List (List ℕ)) (f : Fit mode who reception (slotsIn b) (records b) ls) (b₁ : List ℕ) (used : ℕ) (p : Left (slotsIn b) (prepared mode who (records b)) b₁ used) where
+  leads-on : storedAll (records b₁) (map (recordOf reception) ls) ≡ holdings mode who reception (records b) ls
+  leads-on = rw (p .holds .held) (prepared-stored mode who reception (slotsIn b) (records b) ls f)
+
+  pub apply-ready : Storing reception (slotsIn b₁) (storedAll (records b₁) (map (recordOf reception) ls)) ls b₁ used
+  apply-ready =
+      record {
+        order = p .holds .order;
+        counted = p .counted ∙ ap length (sym (p .holds .held));
+        many = refl;
+        received = f .received;
+        lined = f .lined;
+        leads = refl;
+        room = rw (leads-on, p .holds .many) (f .room);
+      }
+
+  pub applied : (b₂ : List ℕ) → Holds (slotsIn b₁) (storedAll (records b₁) (map (recordOf reception) ls)) b₂ → Holds (slotsIn b) (holdings mode who reception (records b) ls) b₂
+  applied b₂ h = rw (leads-on, p .holds .many) at h

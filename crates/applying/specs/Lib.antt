@@ -1,0 +1,3 @@
+pub mod Fit
+pub mod Steps
+pub mod Taken
