@@ -6,9 +6,13 @@ ghost use Rattle.theory.specs.Pick.{bad};
 ghost use Rattle.theory.specs.Tally.{tally};
 ghost use Rattle.header.specs.Header.{sender};
 ghost use Rattle.stops.specs.Clear.{Clear};
-ghost use Rattle.importer.specs.Import.{judged, roomStops, refusal};
+ghost use Rattle.hgv.specs.Layout.{linesIn};
+ghost use Rattle.importer.specs.Import.{judged, roomStops, refusal, success, written, told, answer, registerAfter, hgcAfter};
+ghost use Rattle.importer.specs.Accepted.{Accepted};
 
 const SLOT: usize = 128;
+
+const LINES: usize = 8192;
 
 // 0 and the three numbers, or the number of a stop and zeros.
 pub struct Imported {
@@ -40,4 +44,50 @@ fn room_stop(mode: u64, reception: &[u8], register: &[u8], rows: &[u8], hgv: &[u
     let length = hgc::length_for(rejected as usize);
     let s34 = rules::first(hgc.len() < length, 34, 0);
     rules::first(register.len() / SLOT < used, 33, s34)
+}
+
+// The taken lines applied and the confirmation written: nothing can stop it any more.
+fn carry_out(mode: u64, reception: &[u8], register: &mut [u8], rows: &[u8], hgv: &[u8], hgc: &mut [u8], verdicts: &[u8], taken: u64, rejected: u64) -> Imported
+    requires { ⌜ Accepted mode (now reception) (now register) (now rows) (now hgv) (now hgc) (now verdicts) taken rejected ⌝ }
+    ensures { λ r. ⌜ (r ≡ success (now (reception .entry)) (now (register .entry)) (now (rows .entry)) (now (hgv .entry))) × ((now (register .exit) ≡ written mode (now (reception .entry)) (now (register .entry)) (now (rows .entry)) (now (hgv .entry))) × (now (hgc .exit) ≡ told (now (reception .entry)) (now (register .entry)) (now (rows .entry)) (now (hgv .entry)) (now (hgc .entry)))) ⌝ }
+{
+    applying::apply(mode, register, sender(hgv), reception, hgv::body(hgv), verdicts);
+    hgc::write(hgc, reception, hgv, verdicts, taken, rejected);
+    let length = hgc::length_for(rejected as usize) as u64;
+    Imported { number: 0, taken, rejected, length }
+}
+
+// The import of a file whose lines are judged.
+fn import_judged(mode: u64, reception: &[u8], register: &mut [u8], rows: &[u8], hgv: &[u8], hgc: &mut [u8], verdicts: &[u8]) -> Imported
+    requires { ⌜ Clear mode (now reception) (now register) (now rows) (now hgv) × (now verdicts ≡ judged (now register) (now rows) (now hgv)) ⌝ }
+    ensures { λ r. ⌜ (r ≡ answer mode (now (reception .entry)) (now (register .entry)) (now (rows .entry)) (now (hgv .entry)) (now (hgc .entry))) × ((now (register .exit) ≡ registerAfter mode (now (reception .entry)) (now (register .entry)) (now (rows .entry)) (now (hgv .entry)) (now (hgc .entry))) × (now (hgc .exit) ≡ hgcAfter mode (now (reception .entry)) (now (register .entry)) (now (rows .entry)) (now (hgv .entry)) (now (hgc .entry)))) ⌝ }
+{
+    let taken = verdicts::count_taken(verdicts);
+    let rejected = verdicts.len() as u64 - taken;
+    let stop = room_stop(mode, reception, register, rows, hgv, hgc, verdicts, rejected);
+    if stop != 0 {
+        return refused(stop);
+    }
+    carry_out(mode, reception, register, rows, hgv, hgc, verdicts, taken, rejected)
+}
+
+// The import of a file whose form is right; `verdicts` has a byte for each line.
+fn import_lines(mode: u64, reception: &[u8], register: &mut [u8], rows: &[u8], hgv: &[u8], hgc: &mut [u8], verdicts: &mut [u8]) -> Imported
+    requires { ⌜ Clear mode (now reception) (now register) (now rows) (now hgv) × (length (now verdicts) ≡ linesIn (now hgv)) ⌝ }
+    ensures { λ r. ⌜ (r ≡ answer mode (now (reception .entry)) (now (register .entry)) (now (rows .entry)) (now (hgv .entry)) (now (hgc .entry))) × ((now (register .exit) ≡ registerAfter mode (now (reception .entry)) (now (register .entry)) (now (rows .entry)) (now (hgv .entry)) (now (hgc .entry))) × (now (hgc .exit) ≡ hgcAfter mode (now (reception .entry)) (now (register .entry)) (now (rows .entry)) (now (hgv .entry)) (now (hgc .entry)))) ⌝ }
+{
+    verdicts::judge(hgv, rows, register, verdicts);
+    import_judged(mode, reception, register, rows, hgv, hgc, verdicts)
+}
+
+pub fn import(mode: u64, reception: &[u8], register: &mut [u8], rows: &[u8], hgv: &[u8], hgc: &mut [u8]) -> Imported
+    ensures { λ r. ⌜ (r ≡ answer mode (now (reception .entry)) (now (register .entry)) (now (rows .entry)) (now (hgv .entry)) (now (hgc .entry))) × ((now (register .exit) ≡ registerAfter mode (now (reception .entry)) (now (register .entry)) (now (rows .entry)) (now (hgv .entry)) (now (hgc .entry))) × (now (hgc .exit) ≡ hgcAfter mode (now (reception .entry)) (now (register .entry)) (now (rows .entry)) (now (hgv .entry)) (now (hgc .entry)))) ⌝ }
+{
+    let stop = stops::form_stop(mode, reception, register, rows, hgv);
+    if stop != 0 {
+        return refused(stop);
+    }
+    let mut verdicts = [0u8; LINES];
+    let n = hgv::lines_in(hgv);
+    import_lines(mode, reception, register, rows, hgv, hgc, &mut verdicts[..n])
 }

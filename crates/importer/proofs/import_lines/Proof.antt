@@ -1,0 +1,28 @@
+-- Assumes nothing.
+use Rattle.importer.specs.Import.{judged}
+use borrow.Author.Needs.{needs}
+use Rattle.importer.proofs.import_lines.Statement.{statement}
+use Rattle.importer.proofs.import_lines.Tie as tie
+
+judge-requires : tie.Need-judge-requires
+judge-requires c κs = c .before .before .before .before .before .before .before .before .pre .1
+
+import-judged-requires : tie.Need-import-judged-requires
+unfolding judged
+import-judged-requires c κs =
+    let x = c .before .before .before .before .before in
+    (x .before .before .before .before .before .before .before .before .before .pre .0, x .judge .ensures)
+
+returns : tie.Need-returns
+returns c = c .before .before .before .before .import-judged .ensures
+
+pub import-lines-spec : {M : Type 1} → statement M
+import-lines-spec =
+    tie.close
+    (tie.spec
+    judge-requires
+    import-judged-requires
+    (λ c. search needs)
+    (λ c. search needs)
+    (λ c. search needs)
+    returns)
