@@ -1,5 +1,5 @@
 -- The sender's records marked and removed. Assumes nothing.
-use mathlib.Core.Path.{_≡_, refl, sym, ap, _∙_}
+use mathlib.Core.Path.{_≡_, refl, ap, _∙_}
 use mathlib.Core.Bool.{Bool, true, false, not}
 use mathlib.Core.List.{List, [], _∷_, _++_, map}
 use Prim.Native.Nat.{ℕ, _*_, _≤_}
@@ -16,7 +16,7 @@ use Rattle.register.specs.Register.{slotLength, slotsMost, slotsIn, slotsOf, re
 use Rattle.register.specs.Search.{of}
 use Rattle.register.specs.Laws.{ordered, used-most, used-fits, records-chop, slots-used}
 use Rattle.holdings.specs.Holdings.{others, isFull}
-use Rattle.upkeep.specs.Stays.{Holds, as-it-is, closed}
+use Rattle.upkeep.specs.Stays.{as-it-is, closed}
 use Rattle.applying.specs.Steps.{markOf, prepared, Left}
 
 -- marks that ask nothing of the slots before
