@@ -1,26 +1,26 @@
 -- The sender's records marked and removed. Assumes nothing.
-use mathlib.Core.Path.{_≡_, refl, sym, ap, _∙_}
+use mathlib.Core.Path.{_≡_, refl, ap, _∙_}
 use mathlib.Core.Bool.{Bool, true, false, not}
 use mathlib.Core.List.{List, [], _∷_, _++_, map}
-use Prim.Native.Nat.{ℕ, _*_, _≤_}
+use Prim.Native.Nat.{ℕ, _+_, _*_, _≤_, _<_}
 use native.Mathlib.Omega.{arith}
-use lib.ListN.{length, take, drop, length-map}
+use lib.ListN.{length, take, drop, set, length-map, length-set}
 use borrow.Author.Tests.{eq-eqb, ne-eqb}
 use Rattle.theory.specs.Count.{bump}
 use Rattle.theory.specs.Keep.{onto, sift}
 use Rattle.theory.specs.Pick.{good, pick}
-use Rattle.theory.specs.Parts.{chop, length-chop}
-use Rattle.theory.specs.Scan.{scan, takenNext}
+use Rattle.theory.specs.Parts.{chop, partAt, length-chop}
+use Rattle.theory.specs.Scan.{scan, takenNext, Judged, judged-start, judged-turn, judged-end}
 use Rattle.closing.specs.Closing.{kept, closedUp}
 use Rattle.register.specs.Register.{slotLength, slotsMost, slotsIn, slotsOf, records, usedIn, usedPart, inOrder}
 use Rattle.register.specs.Search.{of}
 use Rattle.register.specs.Laws.{ordered, used-most, used-fits, records-chop, slots-used}
 use Rattle.holdings.specs.Holdings.{others, isFull}
-use Rattle.upkeep.specs.Stays.{Holds, as-it-is, closed}
+use Rattle.upkeep.specs.Stays.{as-it-is, closed}
 use Rattle.applying.specs.Steps.{markOf, prepared, Left}
 
 -- marks that ask nothing of the slots before
-pub scan-map : (g : List ℕ → ℕ) (ts ls : List (List ℕ)) → scan (λ _ l. g l) ts ls ≡ map g ls
+scan-map : (g : List ℕ → ℕ) (ts ls : List (List ℕ)) → scan (λ _ l. g l) ts ls ≡ map g ls
 unfolding scan
 scan-map g ts [] = refl
 scan-map g ts (l ∷ ls) = ap (λ (vs : List ℕ). g l ∷ vs) (scan-map g (takenNext (g l) l ts) ls)
@@ -32,6 +32,31 @@ marked-own who r h = rw h
 pub marked-other : (who r : List ℕ) → of who r ≡ false → 0 ≡ markOf who r
 unfolding markOf bump
 marked-other who r h = rw h
+
+-- the first i of n slots have their marks
+pub record Marking (who b : List ℕ) (n i : ℕ) (marks : List ℕ) : Type 0 where
+  pub within : i ≤ n
+  pub size : length marks ≡ n
+  pub judged : Judged (λ _ l. markOf who l) slotLength b i marks
+
+module _ (who b : List ℕ) where
+  pub marking-start : (marks : List ℕ) → Marking who b (length marks) 0 marks
+  marking-start marks = record { within = omega arith; size = refl; judged = judged-start _ slotLength b marks }
+
+  module _ (n i : ℕ) (marks : List ℕ) (k : Marking who b n i marks) where
+    -- x is the slot, and m the mark that it got
+    pub marking-turn : i < length marks → (x : List ℕ) → x ≡ partAt slotLength i b → (m : ℕ) → m ≡ markOf who x → Marking who b n (i + 1) (set marks i m)
+    marking-turn l x p m e =
+        record {
+          within = omega (arith, k .size);
+          size = length-set marks i m ∙ k .size;
+          judged = judged-turn _ slotLength b i marks (k .judged) l m (e ∙ ap (markOf who) p) (set marks i m) refl;
+        }
+
+    pub marking-end : length marks ≤ i → marks ≡ map (markOf who) (chop slotLength n b)
+    marking-end l =
+        let e : i ≡ n = omega (arith, k .within, k .size) in
+        rw (← e) (judged-end _ slotLength b i marks (k .judged) (omega (arith, k .size)) ∙ scan-map (markOf who) [] (chop slotLength i b))
 
 -- those without a mark are the others'
 pick-others : (who : List ℕ) (R : List (List ℕ)) → pick good (map (markOf who) R) R ≡ others who R

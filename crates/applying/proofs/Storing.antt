@@ -6,10 +6,10 @@ use Prim.Native.Nat.{ℕ, suc, _+_, _*_, _≤_, _<_}
 use native.Mathlib.Omega.{arith}
 use native.Mathlib.Numerals.{add-one}
 use lib.Dec.{eqb, ltb}
-use lib.ListN.{length, take, getD, set, length-append, length-set}
+use lib.ListN.{length, take, getD, length-append, length-set}
 use borrow.Author.Tests.{eq-eqb, ne-eqb, ltb-true, ltb-false, le-ltb}
-use Rattle.theory.specs.Same.{eqs, eqs-true, mem}
-use Rattle.theory.specs.Each.{Each, none, more, each-head, each-tail}
+use Rattle.theory.specs.Same.{eqs-true}
+use Rattle.theory.specs.Each.{Each, each-head, each-tail}
 use Rattle.theory.specs.Count.{bump}
 use Rattle.theory.specs.Walk.{some}
 use Rattle.theory.specs.Keep.{onto}
@@ -23,11 +23,11 @@ use Rattle.columns.specs.Columns.{panOf}
 use Rattle.lines.specs.Rules.{recordHolds}
 use Rattle.lines.specs.End.{recordOf}
 use Rattle.records.specs.Slot.{putRecord}
-use Rattle.register.specs.Register.{slotLength, slotsMost, slotsIn, slotsOf, records, usedIn, usedPart}
+use Rattle.register.specs.Register.{slotLength, slotsMost, slotsIn, slotsOf, records, usedPart}
 use Rattle.register.specs.Search.{holdsPan, placeOf}
-use Rattle.register.specs.Laws.{Ordered, ordered, used-most, used-fits, slots-used}
+use Rattle.register.specs.Laws.{ordered, used-most, used-fits, slots-used}
 use Rattle.holdings.specs.Holdings.{stored, storedAll, holdings}
-use Rattle.holdings.specs.Storing.{stored-held, stored-new, stored-grows, all-grows}
+use Rattle.holdings.specs.Storing.{stored-held, stored-new, all-grows}
 use Rattle.upkeep.specs.Stays.{Holds, written-length, written-used, written-put, as-it-is, replaced, added}
 use Rattle.applying.specs.Fit.{Fit}
 use Rattle.applying.specs.Steps.{prepared, storedIf, Left, Ready, Storing}

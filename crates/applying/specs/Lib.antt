@@ -1,3 +1,5 @@
 pub mod Fit
 pub mod Steps
 pub mod Taken
+pub mod Others
+pub mod Outcomes

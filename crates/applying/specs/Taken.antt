@@ -1,6 +1,6 @@
 -- The records of lines that fit: their PANs and actors are the lines', and storing them into what was prepared gives
 -- the holdings. Assumes nothing.
-use mathlib.Core.Path.{_≡_, refl, ap, _∙_}
+use mathlib.Core.Path.{_≡_, refl}
 use mathlib.Core.Bool.{Bool, true, false, cond}
 use mathlib.Core.List.{List, [], _∷_, _++_, map}
 use Prim.Native.Nat.{ℕ}
@@ -32,11 +32,11 @@ module _ (reception : List ℕ) (real : realTime reception ≡ true) where
   record-pans none = refl
   record-pans (more h hs) = rw (record-pan _ h, record-pans hs)
 
-  -- what is known of each line's PAN is known of its record's
-  pub each-pan : (q : List ℕ → Type 0) (ls : List (List ℕ)) → Each (λ l. recordHolds l ≡ true) ls → Each (λ l. q (panOf l)) ls
-      → Each (λ x. q (panOf x)) (map (recordOf reception) ls)
-  each-pan q [] none none = none
-  each-pan q (l ∷ ls) (more h hs) (more k ks) = more {x = recordOf reception l} (rw (record-pan l h) k) (each-pan q ls hs ks)
+-- what a line's record takes over from it, each record has where each line has it
+pub each-record : (reception : List ℕ) (q : List ℕ → Type 0) → ((l : List ℕ) → recordHolds l ≡ true → q l → q (recordOf reception l))
+    → (ls : List (List ℕ)) → Each (λ l. recordHolds l ≡ true) ls → Each q ls → Each q (map (recordOf reception) ls)
+each-record reception q g [] none none = none
+each-record reception q g (l ∷ ls) (more h hs) (more k ks) = more (g l h k) (each-record reception q g ls hs ks)
 
 -- the lines stored into what was prepared
 pub prepared-stored : (mode : ℕ) (who reception : List ℕ) (slots : ℕ) (R ls : List (List ℕ)) → Fit mode who reception slots R ls
@@ -48,7 +48,9 @@ prepared-stored mode who reception slots R ls f = go (isFull mode)
     xs = map (recordOf reception) ls
 
     new : Each (λ x. some (holdsPan (panOf x)) (others who R) ≡ false) xs
-    new = each-pan reception (f .received) (λ p. some (holdsPan p) (others who R) ≡ false) ls (f .lined) (each-map (λ l e. new-others who (panOf l) R e) (f .free))
+    new =
+        each-record reception (λ l. some (holdsPan (panOf l)) (others who R) ≡ false) (λ l h e. rw (record-pan reception (f .received) l h) e)
+        ls (f .lined) (each-map (λ l e. new-others who (panOf l) R e) (f .free))
 
     go : (full : Bool) → storedAll (cond full (others who R) R) xs ≡ cond full (others who R ++ xs) (storedAll R xs)
     go true = all-new xs (others who R) (rw (record-pans reception (f .received) (f .lined)) (f .apart)) new

@@ -85,10 +85,8 @@ fn store_all(register: &mut [u8], first: usize, lines: &[u8], verdicts: &[u8], r
 fn mark_of(slot: &[u8], who: &[u8]) -> u8
     ensures { λ r. ⌜ r ≡ markOf (now (who .entry)) (now (slot .entry)) ⌝ }
 {
-    if texts::has_text(slot, columns::ACTOR_FROM, columns::ACTOR_TO, who) {
-        return 1;
-    }
-    0
+    let own = texts::has_text(slot, columns::ACTOR_FROM, columns::ACTOR_TO, who);
+    if own { 1 } else { 0 }
 }
 
 // A mark for each of the slots, as many as `marks` has room for.
