@@ -1,0 +1,6 @@
+pub mod Pairing
+pub mod Laws
+pub mod Firsts
+pub mod Faithful
+pub mod Backwards
+pub mod Turns

@@ -1,0 +1,1 @@
+// Which lines of an HGV were taken, read off its HGC.
