@@ -17,6 +17,7 @@ use Rattle.register.specs.Search.{of}
 use Rattle.register.specs.Laws.{ordered, used-most, used-fits, records-chop, slots-used}
 use Rattle.holdings.specs.Holdings.{others, isFull}
 use Rattle.upkeep.specs.Stays.{as-it-is, closed}
+use Rattle.applying.specs.Follows.{pick-others}
 use Rattle.applying.specs.Steps.{markOf, prepared, Left}
 
 -- marks that ask nothing of the slots before
@@ -57,16 +58,6 @@ module _ (who b : List ℕ) where
     marking-end l =
         let e : i ≡ n = omega (arith, k .within, k .size) in
         rw (← e) (judged-end _ slotLength b i marks (k .judged) (omega (arith, k .size)) ∙ scan-map (markOf who) [] (chop slotLength i b))
-
--- those without a mark are the others'
-pick-others : (who : List ℕ) (R : List (List ℕ)) → pick good (map (markOf who) R) R ≡ others who R
-unfolding pick others sift markOf bump good
-pick-others who [] = refl
-pick-others who (r ∷ R) = rw (pick-others who R) (go (of who r) refl)
-  where
-    go : (s : Bool) → of who r ≡ s → onto (good (markOf who r)) r (others who R) ≡ onto (not s) r (others who R)
-    go true e = rw e
-    go false e = rw e
 
 module _ (b : List ℕ) (h : inOrder b ≡ true) where
   pub used-within : usedIn b ≤ slotsMost

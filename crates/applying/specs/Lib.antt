@@ -2,4 +2,5 @@ pub mod Fit
 pub mod Steps
 pub mod Taken
 pub mod Others
+pub mod Follows
 pub mod Outcomes

@@ -1,3 +1,5 @@
 pub mod Import
 pub mod Accepted
 pub mod Numbers
+pub mod Follows
+pub mod Outcomes

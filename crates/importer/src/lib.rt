@@ -64,9 +64,9 @@ fn import_judged(mode: u64, reception: &[u8], register: &mut [u8], rows: &[u8], 
 {
     let taken = verdicts::count_taken(verdicts);
     let rejected = verdicts.len() as u64 - taken;
-    let stop = room_stop(mode, reception, register, rows, hgv, hgc, verdicts, rejected);
-    if stop != 0 {
-        return refused(stop);
+    let room = room_stop(mode, reception, register, rows, hgv, hgc, verdicts, rejected);
+    if room != 0 {
+        return refused(room);
     }
     carry_out(mode, reception, register, rows, hgv, hgc, verdicts, taken, rejected)
 }
@@ -83,9 +83,9 @@ fn import_lines(mode: u64, reception: &[u8], register: &mut [u8], rows: &[u8], h
 pub fn import(mode: u64, reception: &[u8], register: &mut [u8], rows: &[u8], hgv: &[u8], hgc: &mut [u8]) -> Imported
     ensures { λ r. ⌜ (r ≡ answer mode (now (reception .entry)) (now (register .entry)) (now (rows .entry)) (now (hgv .entry)) (now (hgc .entry))) × ((now (register .exit) ≡ registerAfter mode (now (reception .entry)) (now (register .entry)) (now (rows .entry)) (now (hgv .entry)) (now (hgc .entry))) × (now (hgc .exit) ≡ hgcAfter mode (now (reception .entry)) (now (register .entry)) (now (rows .entry)) (now (hgv .entry)) (now (hgc .entry)))) ⌝ }
 {
-    let stop = stops::form_stop(mode, reception, register, rows, hgv);
-    if stop != 0 {
-        return refused(stop);
+    let form = stops::form_stop(mode, reception, register, rows, hgv);
+    if form != 0 {
+        return refused(form);
     }
     let mut verdicts = [0u8; LINES];
     let n = hgv::lines_in(hgv);
