@@ -1,0 +1,136 @@
+-- The HGC beside its HGV, as a provider reads it: its form, and its lines against the HGV's, clause by clause as the
+-- definition lists them under 52. h is the HGV, g the HGC. Assumes nothing.
+use Prim.Native.Nat.{ℕ, _+_, _-_, _/_, _%_}
+use mathlib.Core.Bool.{Bool, true, false, _&&_}
+use mathlib.Core.List.{List, [], _∷_, map}
+use lib.Dec.{eqb, leb}
+use lib.ListN.{length, drop}
+use Rattle.theory.specs.Text.{bytes}
+use Rattle.theory.specs.Same.{eqs}
+use Rattle.theory.specs.Every.{run}
+use Rattle.theory.specs.Parts.{chop}
+use Rattle.theory.specs.Walk.{each}
+use Rattle.theory.specs.Pick.{good, pick}
+use Rattle.theory.specs.Distinct.{distinct}
+use Rattle.texts.specs.Field.{field, lineEnd, listed}
+use Rattle.fields.specs.Field.{digit, zero}
+use Rattle.numbers.specs.Number.{number}
+use Rattle.times.specs.Time.{realTime}
+use Rattle.columns.specs.Columns.{text, panOf}
+use Rattle.lines.specs.Rules.{recordHolds}
+use Rattle.register.specs.Search.{of}
+use Rattle.hgv.specs.Layout.{footerLength, linesOf}
+use Rattle.frames.specs.Frames.{footerForm}
+use Rattle.header.specs.Header.{sender, listSequence}
+use Rattle.hgc.specs.Confirmation.{headLength, answerLength, confirmationLength, outcome}
+use Rattle.pairing.specs.Pairing.{marks, left, told}
+
+-- ---- its layout
+
+-- what an HGC has beside its lines
+abbrev pub bareLength : ℕ
+bareLength = headLength + footerLength
+
+-- the number of its lines, r
+unfoldable pub answersIn : List ℕ → ℕ
+answersIn g = (length g - bareLength) / answerLength
+
+unfoldable pub answersOf : List ℕ → List (List ℕ)
+answersOf g = chop answerLength (answersIn g) (drop headLength g)
+
+unfoldable pub footOf : List ℕ → List ℕ
+footOf g = drop (length g - footerLength) g
+
+abbrev pub receptionOf : List ℕ → List ℕ
+receptionOf g = field 33 46 g
+
+abbrev pub takenOf : List ℕ → List ℕ
+takenOf g = field 47 61 g
+
+abbrev pub rejectedOf : List ℕ → List ℕ
+rejectedOf g = field 62 76 g
+
+abbrev pub reasonOf : List ℕ → List ℕ
+reasonOf a = field 128 129 a
+
+-- ---- its form
+
+-- the length: 110 + 130 r + 64
+unfoldable pub lengthForm : List ℕ → Bool
+lengthForm g = leb bareLength (length g) && eqb ((length g - bareLength) % answerLength) 0
+
+-- `0`, `000002`, taken 15 digits, rejected 15 digits, `120001`, 25 zeros, LF; receiver, list, reception and `00` or `01` have
+-- clauses of their own
+unfoldable pub headForm : List ℕ → Bool
+headForm g =
+    eqs (field 1 1 g) (bytes "0") && eqs (field 2 7 g) (bytes "000002") && run digit 15 (takenOf g) && run digit 15 (rejectedOf g)
+    && eqs (field 77 82 g) (bytes "120001") && run zero 25 (field 83 107 g) && eqs (field 110 110 g) lineEnd
+
+-- `1`, LF; the text has a clause of its own, and so has the reason
+unfoldable pub answerForm : List ℕ → Bool
+answerForm a = eqs (field 1 1 a) (bytes "1") && eqs (field 130 130 a) lineEnd
+
+unfoldable pub formHolds : List ℕ → Bool
+formHolds g = lengthForm g && headForm g && each answerForm (answersOf g) && footerForm (footOf g)
+
+-- the receiver is the HGV's sender, the list its list
+unfoldable pub namesHold : List ℕ → List ℕ → Bool
+namesHold h g = eqs (field 8 13 g) (sender h) && eqs (field 14 32 g) (listSequence h)
+
+-- `00` or `01` fits
+unfoldable pub outcomeHolds : List ℕ → Bool
+outcomeHolds g = eqs (field 108 109 g) (outcome (answersIn g))
+
+-- 01-06, 08, 09 or 12
+unfoldable pub reasonHolds : List ℕ → Bool
+reasonHolds a = listed 2 (bytes "010203040506080912") (reasonOf a)
+
+-- ---- its lines against the HGV's
+
+unfoldable pub textsOf : List ℕ → List (List ℕ)
+textsOf h = map text (linesOf h)
+
+unfoldable pub copiesOf : List ℕ → List (List ℕ)
+copiesOf g = map text (answersOf g)
+
+-- 0 for each line of the HGV that was taken
+unfoldable pub marksOf : List ℕ → List ℕ → List ℕ
+marksOf h g = marks (textsOf h) (copiesOf g)
+
+unfoldable pub takenBy : List ℕ → List ℕ → List (List ℕ)
+takenBy h g = pick good (marksOf h g) (linesOf h)
+
+-- two lists of texts are the same
+unfoldable pub sameTexts : List (List ℕ) → List (List ℕ) → Bool
+sameTexts [] [] = true
+sameTexts [] (y ∷ ys) = false
+sameTexts (x ∷ xs) [] = false
+sameTexts (x ∷ xs) (y ∷ ys) = eqs x y && sameTexts xs ys
+
+-- the HGC's copies are the lines left, in order
+unfoldable pub copiesHold : List ℕ → List ℕ → Bool
+copiesHold h g = sameTexts (left (textsOf h) (copiesOf g)) (copiesOf g)
+
+-- the counts are those of the lines
+unfoldable pub countsHold : List ℕ → List ℕ → Bool
+countsHold h g = eqb (number (takenOf g)) (length (takenBy h g)) && eqb (number (rejectedOf g)) (answersIn g)
+
+-- a taken line has the sender for its actor, and keeps L1, L5 to L10
+unfoldable pub lineHolds : List ℕ → List ℕ → Bool
+lineHolds h l = of (sender h) l && recordHolds l
+
+-- no two taken lines share a PAN, and each holds
+unfoldable pub takenHold : List ℕ → List ℕ → Bool
+takenHold h g = distinct (map panOf (takenBy h g)) && each (lineHolds h) (takenBy h g)
+
+-- 52 is given where this does not hold
+unfoldable pub receiptHolds : List ℕ → List ℕ → Bool
+receiptHolds h g =
+    formHolds g && namesHold h g && realTime (receptionOf g) && outcomeHolds g && each reasonHolds (answersOf g)
+    && copiesHold h g && countsHold h g && takenHold h g
+
+-- ---- what is read
+
+-- for each line 0 where it was taken, else its reason as a number
+unfoldable pub readVerdicts : List ℕ → List ℕ → List ℕ
+readVerdicts h g = told (marksOf h g) (map (λ a. number (reasonOf a)) (answersOf g))

@@ -1,0 +1,1 @@
+// The HGC beside its HGV, as a provider reads it.
