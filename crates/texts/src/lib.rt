@@ -31,18 +31,19 @@ pub fn part<'a>(block: &'a [u8], width: usize, i: usize) -> &'a [u8]
     &block[at..end]
 }
 
+// From the last byte to the first: numbers that are counted on differ at their end.
 pub fn same(a: &[u8], b: &[u8]) -> bool
     ensures { λ r. ⌜ r ≡ eqs (now (a .entry)) (now (b .entry)) ⌝ }
 {
     if a.len() != b.len() {
         return false;
     }
-    let mut i: usize = 0;
-    while i < a.len() {
+    let mut i = a.len();
+    while 0 < i {
+        i -= 1;
         if a[i] != b[i] {
             return false;
         }
-        i += 1;
     }
     true
 }

@@ -2,14 +2,13 @@
 use mathlib.Core.Path.{_≡_, refl, sym, ap, ap₂, _∙_}
 use mathlib.Core.Bool.{Bool, true, false, not, _&&_, _||_, true≢false, false≢true}
 use mathlib.Core.List.{List, [], _∷_, _++_}
-use Prim.Native.Nat.{ℕ, zero, suc, _+_, _≤_, _<_}
-use native.Mathlib.Numerals.{add-one}
+use Prim.Native.Nat.{ℕ, suc, _-_, _≤_, _<_}
 use native.Mathlib.Omega.{arith}
 use lib.Dec.{eqb}
-use lib.ListN.{length, drop, getD, drop-of-length-le}
-use lib.Seq.{drop-cons}
+use lib.ListN.{length, take, getD}
+use lib.Seq.{length-take-le, take-all, take-suc}
 use borrow.Author.Tests.{eqb-true, eqb-false, eq-eqb, ne-eqb}
-use Rattle.theory.specs.Truth.{and-left, and-right, and-none, same-truth, or-assoc}
+use Rattle.theory.specs.Truth.{and-left, and-right, and-none, and-true, and-assoc, same-truth, or-assoc}
 
 unfoldable pub eqs : List ℕ → List ℕ → Bool
 eqs [] [] = true
@@ -43,29 +42,41 @@ eqs-lengths [] (y ∷ ys) h = refl
 eqs-lengths (x ∷ xs) [] h = refl
 eqs-lengths (x ∷ xs) (y ∷ ys) h = and-none (eqb x y) (eqs xs ys) (eqs-lengths xs ys (λ e. h (ap suc e)))
 
--- ---- the same from the place i on, as a comparing loop has it
+-- ---- the same up to the place i, as a loop has it that compares from the last byte to the first
 
-unfoldable pub eqsFrom : List ℕ → List ℕ → ℕ → Bool
-eqsFrom a b i = eqs (drop i a) (drop i b)
+unfoldable pub eqsTo : List ℕ → List ℕ → ℕ → Bool
+eqsTo a b i = eqs (take i a) (take i b)
 
-pub eqs-start : (a b : List ℕ) → eqs a b ≡ eqsFrom a b 0
-unfolding eqsFrom
-eqs-start a b = refl
+pub eqs-whole : (a b : List ℕ) (i : ℕ) → length a ≤ i → length b ≤ i → eqs a b ≡ eqsTo a b i
+unfolding eqsTo
+eqs-whole a b i ha hb = rw (take-all i a ha, take-all i b hb)
 
-module _ (a b : List ℕ) (i : ℕ) (ha : i < length a) (hb : i < length b) where
-  eqs-step : eqsFrom a b i ≡ eqb (getD a i 0) (getD b i 0) && eqsFrom a b (i + 1)
-  unfolding eqs eqsFrom
-  eqs-step = rw (add-one, drop-cons a i 0, drop-cons b i 0)
+pub eqs-none : (a b : List ℕ) → eqsTo a b 0 ≡ true
+unfolding eqs eqsTo
+eqs-none a b = refl
 
-  pub eqs-on : getD a i 0 ≡ getD b i 0 → eqsFrom a b i ≡ eqsFrom a b (i + 1)
-  eqs-on h = eqs-step ∙ rw (eq-eqb (getD a i 0) (getD b i 0))
+eqs-snoc : (a b : List ℕ) (x y : ℕ) → length a ≡ length b → eqs (a ++ x ∷ []) (b ++ y ∷ []) ≡ eqs a b && eqb x y
+unfolding eqs
+eqs-snoc [] [] x y h = and-true (eqb x y)
+eqs-snoc [] (q ∷ b) x y h = absurd (omega arith)
+eqs-snoc (p ∷ a) [] x y h = absurd (omega arith)
+eqs-snoc (p ∷ a) (q ∷ b) x y h = rw (eqs-snoc a b x y (omega arith)) (sym (and-assoc (eqb p q) (eqs a b) (eqb x y)))
 
-  pub eqs-off : (getD a i 0 ≡ getD b i 0 → ⊥) → eqsFrom a b i ≡ false
-  eqs-off h = eqs-step ∙ rw (ne-eqb (getD a i 0) (getD b i 0))
+-- the byte before the place i decides, and what is before it
+module _ (a b : List ℕ) (i : ℕ) (p : 0 < i) (ha : i ≤ length a) (hb : i ≤ length b) where
+  eqs-step : eqsTo a b i ≡ eqsTo a b (i - 1) && eqb (getD a (i - 1) 0) (getD b (i - 1) 0)
+  unfolding eqsTo
+  eqs-step =
+      let j : ℕ = i - 1 in
+      let e : i ≡ suc j = omega arith in
+      let l : length (take j a) ≡ length (take j b) = length-take-le j a (omega arith) ∙ sym (length-take-le j b (omega arith)) in
+      ap (λ (k : ℕ). eqs (take k a) (take k b)) e ∙ rw (take-suc a j 0 (omega arith), take-suc b j 0 (omega arith)) (eqs-snoc (take j a) (take j b) (getD a j 0) (getD b j 0) l)
 
-pub eqs-end : (a b : List ℕ) (i : ℕ) → length a ≤ i → length b ≤ i → eqsFrom a b i ≡ true
-unfolding eqs eqsFrom
-eqs-end a b i ha hb = rw (drop-of-length-le a ha, drop-of-length-le b hb)
+  pub eqs-on : getD a (i - 1) 0 ≡ getD b (i - 1) 0 → eqsTo a b i ≡ eqsTo a b (i - 1)
+  eqs-on h = eqs-step ∙ rw (eq-eqb (getD a (i - 1) 0) (getD b (i - 1) 0) h) (and-true (eqsTo a b (i - 1)))
+
+  pub eqs-off : (getD a (i - 1) 0 ≡ getD b (i - 1) 0 → ⊥) → eqsTo a b i ≡ false
+  eqs-off h = eqs-step ∙ and-none (eqsTo a b (i - 1)) (eqb (getD a (i - 1) 0) (getD b (i - 1) 0)) (ne-eqb (getD a (i - 1) 0) (getD b (i - 1) 0) h)
 
 -- ---- among others
 

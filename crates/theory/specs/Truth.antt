@@ -20,6 +20,10 @@ pub and-none : (a b : Bool) → b ≡ false → a && b ≡ false
 and-none true b h = h
 and-none false b h = refl
 
+pub and-true : (a : Bool) → a && true ≡ a
+and-true true = refl
+and-true false = refl
+
 pub and-assoc : (a b c : Bool) → (a && b) && c ≡ a && (b && c)
 and-assoc true b c = refl
 and-assoc false b c = refl

@@ -5,39 +5,30 @@ use mathlib.Core.Bool.{false}
 use mathlib.Core.List.{List, _++_}
 use lib.ListN.{replicate}
 use Prim.Native.Nat.{ℕ}
-use Rattle.theory.specs.Among.{takenFrom, Among, CountAmong}
-use Rattle.theory.specs.CloseUp.{moved}
-use Rattle.theory.specs.Count.{bump, count, Counted}
-use Rattle.theory.specs.Counting.{Counting}
+use Rattle.theory.specs.Count.{bump}
 use Rattle.theory.specs.Distinct.{distinct}
 use Rattle.theory.specs.Every.{all, run, leading}
-use Rattle.theory.specs.First.{choose, first, numbered, otherwise, numberedTo}
+use Rattle.theory.specs.First.{choose, first}
 use Rattle.theory.specs.Join.{flat}
-use Rattle.theory.specs.Keep.{onto, sift}
+use Rattle.theory.specs.Keep.{onto}
 use Rattle.theory.specs.Pad.{free, pad, frontOn, front}
-use Rattle.theory.specs.Parts.{chop, partAt, partsFrom}
+use Rattle.theory.specs.Parts.{chop}
 use Rattle.theory.specs.Pick.{good, bad, pick}
-use Rattle.theory.specs.Place.{placeOn, place, Placing}
-use Rattle.theory.specs.Put.{putPart}
-use Rattle.theory.specs.Same.{eqs, eqsFrom, mem}
-use Rattle.theory.specs.Scan.{takenNext, scan, Judged}
-use Rattle.theory.specs.Table.{tableFrom, tableOf}
-use Rattle.theory.specs.Tally.{tally, Tallied}
-use Rattle.theory.specs.Walk.{each, some, EachFrom, SomeFrom}
+use Rattle.theory.specs.Same.{eqs, mem}
+use Rattle.theory.specs.Scan.{scan}
+use Rattle.theory.specs.Tally.{tally}
+use Rattle.theory.specs.Walk.{each, some}
 use Rattle.texts.specs.Field.{field, listed}
-use Rattle.fields.specs.Plain.{Covered}
 use Rattle.characters.specs.Characters.{filledTo, filled}
 use Rattle.numbers.specs.Number.{numberAfter, number, decimal}
 use Rattle.pans.specs.Pan.{pan, doubled, counted, luhnSum, luhn}
 use Rattle.plates.specs.Plate.{allowed, plate, nationality, separated, separator}
-use Rattle.issuers.specs.Rows.{row, rows, sentBy, beginning, fitting, known, begun, fitted, issuedOf}
-use Rattle.times.specs.Calendar.{sum, yearDays, days, secs}
-use Rattle.times.specs.Order.{earlier, seconds}
+use Rattle.issuers.specs.Rows.{row, rows, sentBy, beginning, fitting, known, begun, fitted}
 use Rattle.times.specs.Time.{daysIn, realTime, realDate}
 use Rattle.vehicles.specs.Vehicle.{tariffHolds, classHolds, emissionHolds, productHolds, engineHolds, validToHolds, separatorHolds, fieldsHold, weightHolds, L10}
-use Rattle.lines.specs.End.{endOf, active, recordOf}
-use Rattle.lines.specs.Rules.{L1, L2, L3, L4, L5, L6, L7, stateless, L8, L9, lineRules, lineFault, recordHolds}
-use Rattle.lines.specs.Starred.{same, right, every, starred}
+use Rattle.lines.specs.End.{endOf, recordOf}
+use Rattle.lines.specs.Rules.{L1, L2, L3, L4, L5, L6, L7, stateless, L8, L9, lineRules, recordHolds}
+use Rattle.lines.specs.Starred.{starred}
 use Rattle.register.specs.Register.{slotsOf, marked, usedForm, freeForm, records, usedPart, inOrder}
 use Rattle.register.specs.Search.{holdsPan, placeOf, of, holdsForeign, heldByAnother, countOf}
 use Rattle.hgv.specs.Layout.{linesIn, lengthHolds, body, linesOf, footer}
@@ -50,7 +41,7 @@ use Rattle.verdicts.specs.Verdict.{ownRules, verdictRules, verdict, verdictsOf,
 use Rattle.holdings.specs.Holdings.{storedOn, stored, storedAll, others, replacedAll, isFull, holdings}
 use Rattle.holdings.specs.Room.{usedAfter}
 use Rattle.stops.specs.Stops.{modeHolds, notFull, addressed, formStops, formStop}
-use Rattle.importer.specs.Import.{judged, following, confirmed, roomStops, stops, numberOf, unlessStopped, refusal, success, registerAfter, hgcAfter, answer as answered}
+use Rattle.importer.specs.Import.{judged, following, confirmed, roomStops, stops, numberOf, unlessStopped, refusal, success, registerAfter, hgcAfter, answer as answered, written, told}
 use Rattle.importer.specs.declared.Imported.{Imported}
 use Rattle.witnesses.specs.Files as files
 
@@ -76,5 +67,5 @@ pub idle :
     × ((eqs (hgcAfter 1 files.reception (slots 128) files.row files.empty buffer) (hgcAfter 1 files.reception (slots 128) files.row files.bad buffer) ≡ false)
     -- two imports, one after the other: both records are there
     × (registerAfter 1 files.reception after files.row files.next buffer ≡ files.line ++ files.other))))
-unfolding takenFrom Among CountAmong moved bump count Counted Counting distinct all run leading choose first numbered otherwise numberedTo flat onto sift free pad frontOn front chop partAt partsFrom good bad pick placeOn place Placing putPart eqs eqsFrom mem takenNext scan Judged tableFrom tableOf tally Tallied each some EachFrom SomeFrom field listed Covered filledTo filled numberAfter number decimal pan doubled counted luhnSum luhn allowed plate nationality separated separator row rows sentBy beginning fitting known begun fitted issuedOf sum yearDays days secs earlier seconds daysIn realTime realDate tariffHolds classHolds emissionHolds productHolds engineHolds validToHolds separatorHolds fieldsHold weightHolds L10 endOf active recordOf L1 L2 L3 L4 L5 L6 L7 stateless L8 L9 lineRules lineFault recordHolds same right every starred slotsOf marked usedForm freeForm records usedPart inOrder holdsPan placeOf of holdsForeign heldByAnother countOf linesIn lengthHolds body linesOf footer footerForm footerHolds framed framesHold sequence previousHolds headerHolds versionHolds incrementalOnly receiverHolds countHolds zeros outcome names counts head answer said answers foot confirmation ownRules verdictRules verdict verdictsOf fileVerdicts taken rejected storedOn stored storedAll others replacedAll isFull holdings usedAfter modeHolds notFull addressed formStops formStop judged following confirmed roomStops stops numberOf unlessStopped refusal success registerAfter hgcAfter answered
+unfolding bump distinct all run leading choose first flat onto free pad frontOn front chop good bad pick eqs mem scan tally each some field listed filledTo filled numberAfter number decimal pan doubled counted luhnSum luhn allowed plate nationality separated separator row rows sentBy beginning fitting known begun fitted daysIn realTime realDate tariffHolds classHolds emissionHolds productHolds engineHolds validToHolds separatorHolds fieldsHold weightHolds L10 endOf recordOf L1 L2 L3 L4 L5 L6 L7 stateless L8 L9 lineRules recordHolds starred slotsOf marked usedForm freeForm records usedPart inOrder holdsPan placeOf of holdsForeign heldByAnother countOf linesIn lengthHolds body linesOf footer footerForm footerHolds framed framesHold sequence previousHolds headerHolds versionHolds incrementalOnly receiverHolds countHolds zeros outcome names counts head answer said answers foot confirmation ownRules verdictRules verdict verdictsOf fileVerdicts taken rejected storedOn stored storedAll others replacedAll isFull holdings usedAfter modeHolds notFull addressed formStops formStop judged following confirmed roomStops stops numberOf unlessStopped refusal success registerAfter hgcAfter written told answered
 idle = (refl, (refl, (refl, (refl, refl))))
