@@ -12,7 +12,7 @@ use borrow.Author.Tests.{eq-eqb, le-leb}
 use Rattle.theory.specs.Text.{bytes}
 use Rattle.theory.specs.Same.{eqs, eqs-refl}
 use Rattle.theory.specs.Every.{all, run}
-use Rattle.theory.specs.Each.{Each, none, more}
+use Rattle.theory.specs.Each.{Each, none, more, each-from}
 use Rattle.theory.specs.Keep.{each-onto}
 use Rattle.theory.specs.Parts.{chop}
 use Rattle.theory.specs.Join.{flat, chop-take, chop-flat}
@@ -44,18 +44,18 @@ unfolding sameTexts
 same-texts [] = refl
 same-texts (x ∷ xs) = rw (eqs-refl x) (same-texts xs)
 
--- what every answer has, each of a file's answers has
-pub each-answered : {q : List ℕ → Type 0} → ((v : ℕ) (l : List ℕ) → 127 ≤ length l → q (answer v l))
-    → (vs : List ℕ) {ls : List (List ℕ)} → Each (λ l. length l ≡ lineLength) ls → Each q (answers vs ls)
+-- what every answer has whose verdict has p, each of a file's answers has
+pub each-answered : {p : ℕ → Type 0} {q : List ℕ → Type 0} → ((v : ℕ) (l : List ℕ) → p v → 127 ≤ length l → q (answer v l))
+    → {vs : List ℕ} {ls : List (List ℕ)} → Each (λ v. bad v ≡ true → p v) vs → Each (λ l. length l ≡ lineLength) ls → Each q (answers vs ls)
 unfolding answers
-each-answered g [] h = none
-each-answered g (v ∷ vs) none = none
-each-answered g (v ∷ vs) (more h hs) = each-onto (bad v) _ _ (λ e. g v _ (omega arith)) (each-answered g vs hs)
+each-answered g none h = none
+each-answered g (more k ks) none = none
+each-answered g (more k ks) (more h hs) = each-onto _ _ _ (λ e. g _ _ (k e) (omega arith)) (each-answered g ks hs)
 
 -- an answer's two ends
-answer-form : (v : ℕ) (l : List ℕ) → 127 ≤ length l → answerForm (answer v l) ≡ true
+answer-form : (v : ℕ) (l : List ℕ) → v ≡ v → 127 ≤ length l → answerForm (answer v l) ≡ true
 unfolding answerForm eqs
-answer-form v l h = rw (answer-type v l h, answer-end v l h)
+answer-form v l e h = rw (answer-type v l h, answer-end v l h)
 
 module _ (reception h vs : List ℕ) (dated : length reception ≡ 14) (sized : lengthHolds h ≡ true) (counted : length vs ≡ linesIn h) where
   abbrev g : List ℕ
@@ -141,7 +141,7 @@ module _ (reception h vs : List ℕ) (dated : length reception ≡ 14) (sized : 
       )
 
   pub answer-forms : each answerForm (answersOf g) ≡ true
-  answer-forms = rw answers-of (passes-each answerForm (each-answered answer-form vs (each-line h)))
+  answer-forms = rw answers-of (passes-each answerForm (each-answered answer-form (each-from vs 0 (λ i l b. refl)) (each-line h)))
 
   pub form-holds : formHolds g ≡ true
   unfolding formHolds

@@ -1,0 +1,1 @@
+-- What a provider reads off the HGC of an accepted import. Assumes nothing.
