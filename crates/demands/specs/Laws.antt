@@ -20,7 +20,8 @@ each-both none none = none
 each-both (more h hs) (more k ks) = more (h, k) (each-both hs ks)
 
 -- what every verdict of a judge has, each of the verdicts of lines has
-pub each-verdict : {q : ℕ → Type 0} (f : List (List ℕ) → List ℕ → ℕ) → ((taken : List (List ℕ)) (l : List ℕ) → q (f taken l)) → (taken ls : List (List ℕ)) → Each q (scan f taken ls)
+pub each-verdict : {q : ℕ → Type 0} (f : List (List ℕ) → List ℕ → ℕ) → ((taken : List (List ℕ)) (l : List ℕ) → q (f taken l))
+    → (taken ls : List (List ℕ)) → Each q (scan f taken ls)
 unfolding scan
 each-verdict f g taken [] = none
 each-verdict f g taken (l ∷ ls) = more (g taken l) (each-verdict f g (takenNext (f taken l) l taken) ls)

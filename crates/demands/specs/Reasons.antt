@@ -10,13 +10,13 @@ use Rattle.theory.specs.Same.{eqs, mem}
 use Rattle.theory.specs.Parts.{chop}
 use Rattle.theory.specs.First.{Rule, first, choose}
 use Rattle.theory.specs.Pick.{bad}
-use Rattle.texts.specs.Field.{field, listed}
+use Rattle.texts.specs.Field.{listed}
 use Rattle.numbers.specs.Number.{decimal}
 use Rattle.lines.specs.Rules.{lineRules}
 use Rattle.verdicts.specs.Verdict.{ownRules, verdictRules, verdict}
 use Rattle.hgc.specs.Confirmation.{answer}
 use Rattle.hgc.specs.Fields.{answer-reason}
-use Rattle.receipts.specs.Receipt.{reasonOf, reasonHolds}
+use Rattle.receipts.specs.Receipt.{reasonHolds}
 
 -- every rule has a number that passes the test
 unfoldable pub numberedBy : (ℕ → Bool) → List Rule → Bool
@@ -30,7 +30,8 @@ first-passes p [] n h = absurd (false≢true h)
 first-passes p (r ∷ rs) n h =
     go (r .fits) (and-left (p (r .number)) (numberedBy p rs) n) (λ k. first-passes p rs (and-right (p (r .number)) (numberedBy p rs) n) k) h
   where
-    go : (b : Bool) → p (r .number) ≡ true → (bad (first rs) ≡ true → p (first rs) ≡ true) → bad (choose b (r .number) (first rs)) ≡ true → p (choose b (r .number) (first rs)) ≡ true
+    go : (b : Bool) → p (r .number) ≡ true → (bad (first rs) ≡ true → p (first rs) ≡ true)
+        → bad (choose b (r .number) (first rs)) ≡ true → p (choose b (r .number) (first rs)) ≡ true
     go true e k h = e
     go false e k h = k h
 

@@ -1,29 +1,25 @@
 -- The HGC that an import writes, as a provider reads it: its lines are the answers, its form is right, and its names are the
 -- HGV's. Of its clauses those are here that hold whatever the verdicts are. Assumes nothing.
 use mathlib.Core.Path.{_≡_, refl, sym, ap, _∙_}
-use mathlib.Core.Bool.{Bool, true}
-use mathlib.Core.List.{List, [], _∷_, _++_, map, append-assoc}
-use Prim.Native.Nat.{ℕ, _+_, _*_, _-_, _%_, _≤_}
+use mathlib.Core.Bool.{true}
+use mathlib.Core.List.{List, [], _∷_, _++_, append-assoc}
+use Prim.Native.Nat.{ℕ, _*_, _-_, _%_, _≤_}
 use native.Mathlib.Omega.{arith}
-use lib.Dec.{eqb, leb}
-use lib.ListN.{length, take, drop, length-append}
+use lib.ListN.{length, drop, length-append}
 use lib.Seq.{take-at, drop-at}
 use borrow.Author.Tests.{eq-eqb, le-leb}
-use Rattle.theory.specs.Text.{bytes}
 use Rattle.theory.specs.Same.{eqs, eqs-refl}
 use Rattle.theory.specs.Every.{all, run}
 use Rattle.theory.specs.Each.{Each, none, more, each-from}
 use Rattle.theory.specs.Keep.{each-onto}
-use Rattle.theory.specs.Parts.{chop}
 use Rattle.theory.specs.Join.{flat, chop-take, chop-flat}
 use Rattle.theory.specs.Walk.{each, passes-each}
 use Rattle.theory.specs.Pick.{good, bad, pick}
 use Rattle.theory.specs.Tally.{tally}
-use Rattle.texts.specs.Field.{field, lineEnd}
+use Rattle.texts.specs.Field.{field}
 use Rattle.texts.specs.Laws.{field-before}
 use Rattle.numbers.specs.Number.{decimal}
 use Rattle.numbers.specs.Laws.{decimal-digits}
-use Rattle.columns.specs.Columns.{text}
 use Rattle.hgv.specs.Layout.{lineLength, footerLength, linesIn, lengthHolds, linesOf}
 use Rattle.hgv.specs.Laws.{length-lines, each-line, length-least}
 use Rattle.header.specs.Header.{sender, listSequence}
@@ -84,6 +80,7 @@ module _ (reception h vs : List ℕ) (dated : length reception ≡ 14) (sized : 
 
   -- ---- its parts
 
+  -- as many lines as bad verdicts
   pub answers-in : answersIn g ≡ tally bad vs
   unfolding answersIn
   answers-in = omega (arith, size)
@@ -93,6 +90,7 @@ module _ (reception h vs : List ℕ) (dated : length reception ≡ 14) (sized : 
   unfolding confirmation
   behind-top = rw (append-assoc top (flat rows) foot) (drop-at top (flat rows ++ foot) headLength size-top)
 
+  -- and they are the answers
   pub answers-of : answersOf g ≡ rows
   unfolding answersOf
   answers-of =
@@ -100,6 +98,7 @@ module _ (reception h vs : List ℕ) (dated : length reception ≡ 14) (sized : 
       (sym (chop-take answerLength (tally bad vs) (flat rows ++ foot) (simp length-append (omega (arith, size-rows))))
       ∙ rw (take-at (flat rows) foot (tally bad vs * answerLength) size-rows, ← rows-counted) (chop-flat answerLength (each-answer vs (each-line h))))
 
+  -- its last 64 bytes are the footer
   pub foot-of : footOf g ≡ foot
   unfolding footOf confirmation
   foot-of =
@@ -114,6 +113,7 @@ module _ (reception h vs : List ℕ) (dated : length reception ≡ 14) (sized : 
 
   -- ---- its form
 
+  -- 110 + 130 r + 64
   pub length-form : lengthForm g ≡ true
   unfolding lengthForm
   length-form = rw (le-leb bareLength (length g) (omega (arith, size)), eq-eqb ((length g - bareLength) % answerLength) 0 (omega (arith, size)))
@@ -125,6 +125,7 @@ module _ (reception h vs : List ℕ) (dated : length reception ≡ 14) (sized : 
   pub rejected-of : rejectedOf g ≡ decimal 15 (tally bad vs)
   rejected-of = field-of 62 76 (omega arith) (omega arith) (omega arith) ∙ head-rejected reception h (tally good vs) (tally bad vs) dated long
 
+  -- the header's fixed fields, and digits in the counts
   pub head-form : headForm g ≡ true
   unfolding headForm eqs run all zeros
   head-form =
@@ -140,15 +141,18 @@ module _ (reception h vs : List ℕ) (dated : length reception ≡ 14) (sized : 
         field-of 110 110 (omega arith) (omega arith) (omega arith) ∙ head-end reception h (tally good vs) (tally bad vs) dated long,
       )
 
+  -- each line has its two ends
   pub answer-forms : each answerForm (answersOf g) ≡ true
   answer-forms = rw answers-of (passes-each answerForm (each-answered answer-form (each-from vs 0 (λ i l b. refl)) (each-line h)))
 
+  -- so the form is right
   pub form-holds : formHolds g ≡ true
   unfolding formHolds
   form-holds = rw (length-form, head-form, answer-forms, foot-of, foot-form)
 
   -- ---- its names, its outcome, its reception and its copies
 
+  -- the receiver is the HGV's sender, the list its list
   pub names-hold : namesHold h g ≡ true
   unfolding namesHold
   names-hold =
@@ -159,6 +163,7 @@ module _ (reception h vs : List ℕ) (dated : length reception ≡ 14) (sized : 
         eqs-refl (listSequence h),
       )
 
+  -- `00` or `01` fits
   pub outcome-holds : outcomeHolds g ≡ true
   unfolding outcomeHolds
   outcome-holds =
@@ -168,6 +173,7 @@ module _ (reception h vs : List ℕ) (dated : length reception ≡ 14) (sized : 
         eqs-refl (outcome (tally bad vs)),
       )
 
+  -- the time at which the HGV was received
   pub reception-is : receptionOf g ≡ reception
   reception-is = field-of 33 46 (omega arith) (omega arith) (omega arith) ∙ head-reception reception h (tally good vs) (tally bad vs) dated long
 
