@@ -1,1 +1,2 @@
 pub mod Receipt
+pub mod Written

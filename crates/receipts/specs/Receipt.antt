@@ -22,7 +22,7 @@ use Rattle.register.specs.Search.{of}
 use Rattle.hgv.specs.Layout.{footerLength, linesOf}
 use Rattle.frames.specs.Frames.{footerForm}
 use Rattle.header.specs.Header.{sender, listSequence}
-use Rattle.hgc.specs.Confirmation.{headLength, answerLength, confirmationLength, outcome}
+use Rattle.hgc.specs.Confirmation.{headLength, answerLength, outcome}
 use Rattle.pairing.specs.Pairing.{marks, left, told}
 
 -- ---- its layout

@@ -1,0 +1,1 @@
+// What a provider can know of what became of his file.
