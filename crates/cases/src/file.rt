@@ -1,8 +1,10 @@
 // An HGV of one line with one place changed: three digits say from which position on, and the text stands behind a
 // blank, ~ for LF and ^ for CR.
 use crate::ask::told;
+use crate::slots::fill_all;
+use crate::vary::number_in;
 use crate::vary::put;
-use crate::vary::right_line;
+use crate::vary::put_over;
 
 fn real_byte(b: u8) -> u8 {
     if b == 126 {
@@ -22,24 +24,33 @@ fn restore(s: &mut [u8]) {
     }
 }
 
-// The right file, and over it what `f` says.
-fn vary_file(file: &mut [u8], f: &[u8]) {
+// A right file of this length: a line for each letter, and `other` for those behind the last.
+pub fn right_file(file: &mut [u8], length: usize, letters: &[u8], other: u8) {
+    if length < 192 {
+        return;
+    }
+    if file.len() < length {
+        return;
+    }
+    let n = (length - 192) / 128;
+    let end = length - 64;
     put(
         file,
         1,
-        b"0900123000002HGV9001232025031001HGV00000000000000000000000000000000000000000000120250310040000120001000000000000000000000000000\n",
+        b"0900123000002HGV9001232025031001HGV00000000000000000000000000000000000000000000020250310040000120001000000000000000000000000000\n",
     );
-    right_line(file, 129);
+    numbers::put_number(file, 66, 15, n as u64);
+    fill_all(&mut file[128..end], letters, other);
     put(
         file,
-        257,
+        end + 1,
         b"200000000000000000000000000000000000000000000000000000000000000\n",
     );
-    put(
-        file,
-        numbers::number(texts::field(f, 1, 3)) as usize,
-        texts::field(f, 5, 65536),
-    );
+}
+
+// Over a file what `f` says.
+pub fn vary_file(file: &mut [u8], f: &[u8]) {
+    put_over(file, f);
     restore(file);
 }
 
@@ -48,7 +59,7 @@ fn has_length(long: &[u8], n: usize) -> bool {
     if long.len() < n {
         return false;
     }
-    hgv::has_length(&long[..n])
+    hgv::has_length(&long[0..n])
 }
 
 fn of_body(tag: &[u8], file: &[u8], f: &[u8], room: &[u8]) -> u64 {
@@ -59,8 +70,7 @@ fn of_body(tag: &[u8], file: &[u8], f: &[u8], room: &[u8]) -> u64 {
         return told(frames::has_frames(file));
     }
     if texts::same(tag, b"length  ") {
-        let n = numbers::number(texts::field(f, 1, 3)) as usize;
-        return told(has_length(room, n));
+        return told(has_length(room, number_in(texts::field(f, 1, 3))));
     }
     crate::slots::of_slots(tag, f, room)
 }
@@ -83,6 +93,7 @@ fn of_header(tag: &[u8], file: &[u8], f: &[u8], room: &[u8]) -> u64 {
 
 pub fn of_file(tag: &[u8], f: &[u8], room: &[u8]) -> u64 {
     let mut file = [0u8; 320];
+    right_file(&mut file, 320, b"X", b'X');
     vary_file(&mut file, f);
     of_header(tag, &file, f, room)
 }

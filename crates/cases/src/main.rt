@@ -7,6 +7,7 @@ ghost use lib.ListN.{length};
 
 mod ask;
 mod file;
+mod imports;
 mod slots;
 mod vary;
 
@@ -35,12 +36,26 @@ fn tell(answer: u64) {
     io::print_decimal(STDOUT_FILENO, answer);
 }
 
-fn case(line: &[u8], room: &[u8]) {
-    io::write_all(STDOUT_FILENO, line);
+fn answer(line: &[u8], room: &[u8], hgv: &mut [u8], hgc: &mut [u8]) {
     let tag = texts::field(line, 1, 8);
-    if !texts::same(texts::field(line, 1, 1), b"#") {
-        tell(ask::answer(tag, texts::field(line, 10, 65536), room));
+    let f = texts::field(line, 10, 65536);
+    if texts::same(texts::field(line, 1, 1), b"#") {
+        return;
     }
+    if texts::same(tag, b"import  ") {
+        imports::of_import(f);
+        return;
+    }
+    if texts::same(tag, b"many    ") {
+        imports::of_many(f, hgv, hgc);
+        return;
+    }
+    tell(ask::answer(tag, f, room));
+}
+
+fn case(line: &[u8], room: &[u8], hgv: &mut [u8], hgc: &mut [u8]) {
+    io::write_all(STDOUT_FILENO, line);
+    answer(line, room, hgv, hgc);
     io::write_all(STDOUT_FILENO, b"\n");
 }
 
@@ -59,27 +74,29 @@ fn line_end(text: &[u8], from: usize) -> usize
     i
 }
 
-fn each_case(text: &[u8], room: &[u8]) {
+fn each_case(text: &[u8], room: &[u8], hgv: &mut [u8], hgc: &mut [u8]) {
     let mut i: usize = 0;
     while i < text.len() {
         let end = line_end(text, i);
-        case(&text[i..end], room);
+        case(&text[i..end], room, hgv, hgc);
         i = end + 1;
     }
 }
 
-fn run(room: &[u8]) {
+fn run(room: &[u8], hgv: &mut [u8], hgc: &mut [u8]) {
     let mut text = io::large_buffer();
     let n = io::read_full(STDIN_FILENO, &mut text);
-    each_case(&text[..n], room);
+    each_case(&text[..n], room, hgv, hgc);
 }
 
-// One slot more than a register may have.
-fn with_room(room: &mut [u8; 1048704]) {
-    run(room);
+// One slot more than a register may have, one line more than an HGV, and the largest HGC.
+fn with_room(room: &mut [u8; 1048704], hgv: &mut [u8; 1048896], hgc: &mut [u8; 1065134]) {
+    run(room, hgv, hgc);
 }
 
 fn main() {
     let mut room = [0u8; 1048704];
-    with_room(&mut room);
+    let mut hgv = [0u8; 1048896];
+    let mut hgc = [0u8; 1065134];
+    with_room(&mut room, &mut hgv, &mut hgc);
 }

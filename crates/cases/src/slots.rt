@@ -1,7 +1,9 @@
-// A register of four slots, a letter for each, and what is asked of it. `room` is a block of zero bytes.
+// A register of four slots, a letter for each, and what is asked of it. `room` is a block of zero bytes. The lines of a
+// file have the same letters.
 ghost use Prim.Native.Nat.{_+_, _*_, _≤_};
 ghost use lib.ListN.{length};
 use crate::ask::told;
+use crate::vary::number_in;
 use crate::vary::put;
 use crate::vary::right_line;
 
@@ -29,8 +31,16 @@ fn fill_wrong(slot: &mut [u8], letter: u8) {
     put_if(letter == b'D', slot, 1, b"0");
 }
 
+// The right line with one column changed, and another actor's record.
+fn fill_varied(slot: &mut [u8], letter: u8) {
+    put_if(letter == b'B', slot, 80, b"Euro9 ");
+    put_if(letter == b'V', slot, 33, b"XYZ789    ");
+    put_if(letter == b'P', slot, 101, b"20250101000000");
+    put_if(letter == b'Q', slot, 2, b"900124      9799001200000036   ");
+}
+
 fn fill(slot: &mut [u8], letter: u8) {
-    right_if(letter != b'F', slot);
+    right_if((letter != b'F') & (letter != b'-'), slot);
     put_if(letter == b'Y', slot, 14, b"9799001200000010   XYZ1      ");
     put_if(letter == b'Z', slot, 2, b"900124");
     put_if(
@@ -40,6 +50,7 @@ fn fill(slot: &mut [u8], letter: u8) {
         b"9799001200000028   ",
     );
     put_if(letter == b'E', slot, 101, b"20250310050000");
+    fill_varied(slot, letter);
     fill_wrong(slot, letter);
 }
 
@@ -51,20 +62,20 @@ fn fill_at(register: &mut [u8], i: usize, letter: u8)
     fill(&mut register[at..end], letter);
 }
 
-// Free slots behind the last letter.
-fn letter_at(f: &[u8], i: usize) -> u8 {
+// Behind the last letter, `other`.
+pub fn letter_at(f: &[u8], i: usize, other: u8) -> u8 {
     if i < f.len() {
         return f[i];
     }
-    b'F'
+    other
 }
 
 // The letters of f, a slot for each.
-fn fill_all(register: &mut [u8], f: &[u8]) {
+pub fn fill_all(register: &mut [u8], f: &[u8], other: u8) {
     let n = register.len() / SLOT;
     let mut i: usize = 0;
     while i < n {
-        fill_at(register, i, letter_at(f, i));
+        fill_at(register, i, letter_at(f, i, other));
         i += 1;
     }
 }
@@ -128,14 +139,14 @@ fn has_slots(room: &[u8], n: usize) -> bool {
     if room.len() < n {
         return false;
     }
-    register::in_order(&room[..n])
+    register::in_order(&room[0..n])
 }
 
 pub fn of_slots(tag: &[u8], f: &[u8], room: &[u8]) -> u64 {
     if texts::same(tag, b"slots   ") {
-        return told(has_slots(room, numbers::number(texts::field(f, 1, 7)) as usize));
+        return told(has_slots(room, number_in(texts::field(f, 1, 7))));
     }
     let mut register = [0u8; 512];
-    fill_all(&mut register, texts::field(f, 1, 4));
+    fill_all(&mut register, texts::field(f, 1, 4), b'F');
     of_register(tag, &register, f)
 }

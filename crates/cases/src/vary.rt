@@ -28,14 +28,24 @@ pub fn right_line(to: &mut [u8], from: usize) {
     );
 }
 
+// The number that the digits of f write, 15 of them at most.
+pub fn number_in(f: &[u8]) -> usize {
+    numbers::number(texts::field(f, 1, 15)) as usize
+}
+
+// A text over another: the position in three digits, a blank, the text.
+pub fn put_over(to: &mut [u8], f: &[u8]) {
+    put(
+        to,
+        number_in(texts::field(f, 1, 3)),
+        texts::field(f, 5, 65536),
+    );
+}
+
 // The right line, and over it what `f` says.
 fn vary(line: &mut [u8], f: &[u8]) {
     right_line(line, 1);
-    put(
-        line,
-        numbers::number(texts::field(f, 1, 3)) as usize,
-        texts::field(f, 5, 65536),
-    );
+    put_over(line, f);
 }
 
 pub fn of_line(tag: &[u8], f: &[u8], room: &[u8]) -> u64 {

@@ -9,10 +9,10 @@ use Rattle.cases.proofs.slots.fill_all.Statement.{statement}
 use Rattle.cases.proofs.slots.fill_all.Tie as tie
 
 abbrev Inv-loop : tie.InvT-loop
-Inv-loop register₀ f n i₀ register i = (i ≤ n) × (length register ≡ length register₀)
+Inv-loop register₀ f other n i₀ register i = (i ≤ n) × (length register ≡ length register₀)
 
 abbrev μ-loop : tie.MeasureT-loop
-μ-loop register₀ f n i₀ register i = n - i
+μ-loop register₀ f other n i₀ register i = n - i
 
 fill-at-requires : tie.Need-fill-at-requires Inv-loop μ-loop
 fill-at-requires c κs = let l = c .before .before .before in omega (arith, whole-fits 128 (l .loop .i) (length (c .before .before .before .before .before .before .args .register .now)) (c .before .before .loop-test .taken), l .loop .inv .1)
