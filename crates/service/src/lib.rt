@@ -51,7 +51,8 @@ pub extern "C" fn graftspindle_by_pan(
     let mut number: u64 = 0;
     let slot = lookups::by_pan(register, pan, &mut number);
     *length = slot.len() as u64;
-    *start = start_of(number, lookups::place_by_pan(register, pan));
+    let place = lookups::place_by_pan(register, pan);
+    *start = start_of(number, place);
     number
 }
 
@@ -70,9 +71,7 @@ pub extern "C" fn graftspindle_by_plate(
     let mut number: u64 = 0;
     let slot = lookups::by_plate(register, plate, nationality, time, &mut number);
     *length = slot.len() as u64;
-    *start = start_of(
-        number,
-        lookups::place_by_plate(register, plate, nationality, time),
-    );
+    let place = lookups::place_by_plate(register, plate, nationality, time);
+    *start = start_of(number, place);
     number
 }
