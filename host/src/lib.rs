@@ -3,3 +3,4 @@
 #[forbid(unsafe_code)]
 pub mod plain;
 pub mod proved;
+pub mod sample;

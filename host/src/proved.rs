@@ -8,6 +8,8 @@
 //!
 //! Here each pair comes from one slice and no two mutable borrows are alike, so the last two hold for every safe caller.
 
+use std::ops::Range;
+
 /// The number of a stop, or 0, and what an import counts. All but the number are 0 at a stop.
 #[derive(Clone, Copy, Debug, Default, PartialEq, Eq)]
 pub struct Imported {
@@ -34,6 +36,26 @@ extern "C" {
         rejected: *mut u64,
         length: *mut u64,
     ) -> u64;
+    fn graftspindle_by_pan(
+        register: *const u8,
+        register_length: usize,
+        pan: *const u8,
+        pan_length: usize,
+        start: *mut u64,
+        length: *mut u64,
+    ) -> u64;
+    fn graftspindle_by_plate(
+        register: *const u8,
+        register_length: usize,
+        plate: *const u8,
+        plate_length: usize,
+        nationality: *const u8,
+        nationality_length: usize,
+        time: *const u8,
+        time_length: usize,
+        start: *mut u64,
+        length: *mut u64,
+    ) -> u64;
 }
 
 pub fn import(mode: u64, reception: &[u8], register: &mut [u8], rows: &[u8], hgv: &[u8], hgc: &mut [u8]) -> Imported {
@@ -58,4 +80,39 @@ pub fn import(mode: u64, reception: &[u8], register: &mut [u8], rows: &[u8], hgv
         )
     };
     done
+}
+
+fn part(start: u64, length: u64) -> Range<usize> {
+    start as usize..(start + length) as usize
+}
+
+/// The number, and where the slot stands in the register; `0..0` at a refusal.
+pub fn by_pan(register: &[u8], pan: &[u8]) -> (u64, Range<usize>) {
+    let (mut start, mut length) = (0, 0);
+    // SAFETY: each pointer and length are one live slice's; both numbers are locals.
+    let number = unsafe {
+        graftspindle_by_pan(register.as_ptr(), register.len(), pan.as_ptr(), pan.len(), &mut start, &mut length)
+    };
+    (number, part(start, length))
+}
+
+/// The same by plate, nationality and time.
+pub fn by_plate(register: &[u8], plate: &[u8], nationality: &[u8], time: &[u8]) -> (u64, Range<usize>) {
+    let (mut start, mut length) = (0, 0);
+    // SAFETY: each pointer and length are one live slice's; both numbers are locals.
+    let number = unsafe {
+        graftspindle_by_plate(
+            register.as_ptr(),
+            register.len(),
+            plate.as_ptr(),
+            plate.len(),
+            nationality.as_ptr(),
+            nationality.len(),
+            time.as_ptr(),
+            time.len(),
+            &mut start,
+            &mut length,
+        )
+    };
+    (number, part(start, length))
 }

@@ -1,62 +1,14 @@
 //! How long the import of a full file takes, proved and in plain Rust: same machine, same run, same input, both built for
 //! release. Each case is run several times from fresh copies, and the quickest run counts; copying is not timed.
 
-use graftspindle_host::{plain, proved};
+use graftspindle_host::{plain, proved, sample};
 use std::time::{Duration, Instant};
 
 const LINES: usize = 8192;
 const RUNS: usize = 5;
-const RECEPTION: &[u8] = b"20250310050000";
-const SENDER: &str = "900123";
 
 /// The number, taken, rejected, the HGC's length; the register and the HGC's buffer after the import.
 type Outcome = ([u64; 4], Vec<u8>, Vec<u8>);
-
-/// A number and a Luhn digit behind it: a PAN of 16 digits.
-fn pan(i: usize) -> String {
-    let front = format!("97990012{i:07}");
-    let sum: u32 = front
-        .bytes()
-        .rev()
-        .enumerate()
-        .map(|(at, b)| {
-            let digit = u32::from(b - b'0') * if at % 2 == 0 { 2 } else { 1 };
-            digit / 10 + digit % 10
-        })
-        .sum();
-    format!("{front}{}", (10 - sum % 10) % 10)
-}
-
-/// A line that meets every rule; `1` and LF around it.
-fn line(i: usize) -> String {
-    let pan = pan(i);
-    let plate = format!("GS{i:04}");
-    let line = format!(
-        "1{SENDER}      {pan:<19}{plate:<10}DE 3110{:0>12}{:0>18}{:<6}02Y   000000000{:014}00{:011}\n",
-        format!("{i:X}"),
-        format!("{i:X}"),
-        "Euro6",
-        0,
-        0
-    );
-    assert_eq!(line.len(), 128);
-    line
-}
-
-fn hgv() -> Vec<u8> {
-    let mut file = format!(
-        "0{SENDER}000002HGV{SENDER}2025031001HGV{:016}{:014}{LINES:015}20250310040000120001{:027}\n",
-        0, 0, 0
-    );
-    assert_eq!(file.len(), 128);
-    (0..LINES).for_each(|i| file += &line(i));
-    file += &format!("2{:062}\n", 0);
-    file.into_bytes()
-}
-
-fn row() -> Vec<u8> {
-    format!("{:<14}0616{SENDER}", "979900").into_bytes()
-}
 
 /// One import on fresh copies, and how long it took.
 fn timed(import: impl Fn(&mut [u8], &mut [u8]) -> [u64; 4], register: &[u8]) -> (Duration, Outcome) {
@@ -79,25 +31,25 @@ fn quickest(import: impl Fn(&mut [u8], &mut [u8]) -> [u64; 4], register: &[u8]) 
 }
 
 fn by_proof(mode: u64, hgv: &[u8], register: &[u8]) -> (Duration, Outcome) {
-    let rows = row();
+    let rows = sample::row();
     let import = |register: &mut [u8], hgc: &mut [u8]| {
-        let done = proved::import(mode, RECEPTION, register, &rows, hgv, hgc);
+        let done = proved::import(mode, sample::RECEPTION, register, &rows, hgv, hgc);
         [done.number, done.taken, done.rejected, done.length]
     };
     quickest(import, register)
 }
 
 fn by_hand(mode: u64, hgv: &[u8], register: &[u8]) -> (Duration, Outcome) {
-    let rows = row();
+    let rows = sample::row();
     let import = |register: &mut [u8], hgc: &mut [u8]| {
-        let done = plain::import(mode, RECEPTION, register, &rows, hgv, hgc);
+        let done = plain::import(mode, sample::RECEPTION, register, &rows, hgv, hgc);
         [done.number, done.taken, done.rejected, done.length]
     };
     quickest(import, register)
 }
 
 fn main() {
-    let hgv = hgv();
+    let hgv = sample::hgv(LINES);
     let empty = vec![0; 128 * LINES];
     let (_, (_, full, _)) = by_proof(1, &hgv, &empty);
     println!("| Register | Mode | Proved, ms | Plain Rust, ms | Proved / plain |");
