@@ -3,25 +3,46 @@
 use mathlib.Core.Path.{_≡_, refl, sym, ap, _∙_}
 use mathlib.Core.Bool.{Bool, true, false, not, cond, _&&_}
 use mathlib.Core.List.{List, [], _∷_, map}
-use Prim.Native.Nat.{ℕ, _≤_, _<_}
+use Prim.Native.Nat.{ℕ, _+_, _*_, _≤_, _<_}
 use native.Mathlib.Omega.{arith}
 use lib.Dec.{eqb, leb, ltb}
 use lib.ListN.{length, getD, length-map, List·getD-map}
 use borrow.Author.Tests.{not-false, eq-eqb, eqb-false, ltb-true, ltb-false, le-ltb}
 use Rattle.theory.specs.First.{Rule, None, none, more, choose, first, first-clear, numbered}
 use Rattle.theory.specs.Same.{eqs-true}
+use Rattle.theory.specs.Parts.{partAt, part-fits}
+use Rattle.theory.specs.Join.{getD-chop}
 use Rattle.theory.specs.Walk.{each, some}
+use Rattle.theory.specs.Counting.{sift-first, sift-some}
 use Rattle.theory.specs.Distinct.{distinct-places}
-use Rattle.theory.specs.Place.{place, place-some, place-hit}
+use Rattle.theory.specs.Place.{place, place-most, place-some, place-hit}
 use Rattle.times.specs.Time.{realTime}
 use Rattle.pans.specs.Pan.{pan}
 use Rattle.plates.specs.Plate.{plate, nationality}
 use Rattle.columns.specs.Columns.{panOf}
 use Rattle.texts.specs.Field.{field}
-use Rattle.register.specs.Register.{records, usedIn, inOrder}
-use Rattle.register.specs.Laws.{ordered}
+use Rattle.register.specs.Register.{slotLength, records, usedIn, inOrder}
+use Rattle.register.specs.Laws.{ordered, records-chop, used-fits}
 use Rattle.register.specs.Search.{holdsPan, placeOf}
-use Rattle.lookups.specs.Lookup.{unlessRefused, panRules, panNumber, panSlot, seenIn, plateRules, plateNumber}
+use Rattle.lookups.specs.Lookup.{unlessRefused, panRules, panNumber, panPlace, panSlot, seen, seenIn, plateRules, plateNumber, platePlace, plateSlot}
+
+-- ---- the place of a record that passes: it lies within the register, and its part is the record
+
+module _ (q : List ℕ → Bool) (b : List ℕ) where
+  place-room : place q (records b) * slotLength ≤ length b
+  place-room = omega (arith, place-most q (records b), used-fits b)
+
+  module _ (h : some q (records b) ≡ true) where
+    found-below : place q (records b) < usedIn b
+    found-below = ltb-true (place q (records b)) (usedIn b) (sym (place-some q (records b)) ∙ h)
+
+    found-fits : place q (records b) * slotLength + slotLength ≤ length b
+    found-fits = part-fits slotLength (usedIn b) (place q (records b)) (length b) (used-fits b) found-below
+
+    found-slot : partAt slotLength (place q (records b)) b ≡ getD (records b) (place q (records b)) []
+    found-slot = sym (ap (λ (R : List (List ℕ)). getD R (place q (records b)) []) (records-chop b) ∙ getD-chop slotLength (usedIn b) b (place q (records b)) found-below)
+
+-- ---- by PAN
 
 -- what the number 0 says of a lookup by PAN
 pub record PanFound (b key : List ℕ) : Type 0 where
@@ -44,11 +65,26 @@ module _ (b key : List ℕ) where
 
   -- the slot handed back has the PAN
   pub pan-slot-holds : panNumber b key ≡ 0 → holdsPan key (panSlot b key) ≡ true
-  unfolding panSlot unlessRefused placeOf
+  unfolding panSlot unlessRefused panPlace placeOf
   pan-slot-holds h =
       rw (eq-eqb (panNumber b key) 0 h)
       (place-hit (holdsPan key) (records b)
       (ltb-true (place (holdsPan key) (records b)) (usedIn b) (sym (place-some (holdsPan key) (records b)) ∙ pan-found h .held)))
+
+  -- and is the part at its place
+  pub pan-room : panPlace b key * slotLength ≤ length b
+  unfolding panPlace placeOf
+  pan-room = place-room (holdsPan key) b
+
+  pub pan-fits : panNumber b key ≡ 0 → panPlace b key * slotLength + slotLength ≤ length b
+  unfolding panPlace placeOf
+  pan-fits h = found-fits (holdsPan key) b (pan-found h .held)
+
+  pub pan-part : panNumber b key ≡ 0 → partAt slotLength (panPlace b key) b ≡ panSlot b key
+  unfolding panSlot unlessRefused panPlace placeOf
+  pan-part h = rw (eq-eqb (panNumber b key) 0 h) (found-slot (holdsPan key) b (pan-found h .held))
+
+-- ---- by plate
 
 -- what the number 0 says of a lookup by plate: exactly one active record fits
 pub record PlateFound (b p n t : List ℕ) : Type 0 where
@@ -77,6 +113,23 @@ module _ (b p n t : List ℕ) where
   pub found-plate : PlateFound b p n t → plateNumber b p n t ≡ 0
   unfolding plateNumber plateRules first choose
   found-plate f = rw (f .timed, f .ordered, f .keyed, f .single)
+
+  noticed : plateNumber b p n t ≡ 0 → some (seen p n t) (records b) ≡ true
+  unfolding seenIn
+  noticed h = sift-some (seen p n t) (records b) ∙ rw (plate-found h .single)
+
+  -- the slot handed back is the part at its place
+  pub plate-room : platePlace b p n t * slotLength ≤ length b
+  unfolding platePlace
+  plate-room = place-room (seen p n t) b
+
+  pub plate-fits : plateNumber b p n t ≡ 0 → platePlace b p n t * slotLength + slotLength ≤ length b
+  unfolding platePlace
+  plate-fits h = found-fits (seen p n t) b (noticed h)
+
+  pub plate-part : plateNumber b p n t ≡ 0 → partAt slotLength (platePlace b p n t) b ≡ plateSlot b p n t
+  unfolding plateSlot unlessRefused seenIn platePlace
+  plate-part h = rw (eq-eqb (plateNumber b p n t) 0 h) (found-slot (seen p n t) b (noticed h) ∙ sym (sift-first (seen p n t) (records b)))
 
 -- in a register in order no two places have one PAN, so a record's bytes fix its place
 pub bytes-fix : (b : List ℕ) → inOrder b ≡ true → (i j : ℕ) → i < usedIn b → j < usedIn b → getD (records b) i [] ≡ getD (records b) j [] → i ≡ j

@@ -8,6 +8,7 @@ use Rattle.theory.specs.First.{Rule, _if_, first}
 use Rattle.theory.specs.Same.{eqs}
 use Rattle.theory.specs.Walk.{some}
 use Rattle.theory.specs.Keep.{sift}
+use Rattle.theory.specs.Place.{place}
 use Rattle.times.specs.Time.{realTime}
 use Rattle.pans.specs.Pan.{pan}
 use Rattle.plates.specs.Plate.{plate, nationality}
@@ -33,9 +34,13 @@ panRules b key =
 unfoldable pub panNumber : List ℕ → List ℕ → ℕ
 panNumber b key = first (panRules b key)
 
+-- the place of the record with this PAN, or the number of records
+unfoldable pub panPlace : List ℕ → List ℕ → ℕ
+panPlace b key = placeOf key (records b)
+
 -- the slot itself
 unfoldable pub panSlot : List ℕ → List ℕ → List ℕ
-panSlot b key = unlessRefused (panNumber b key) (getD (records b) (placeOf key (records b)) [])
+panSlot b key = unlessRefused (panNumber b key) (getD (records b) (panPlace b key) [])
 
 -- ---- by plate, nationality and time
 
@@ -58,6 +63,10 @@ plateRules b p n t =
 
 unfoldable pub plateNumber : List ℕ → List ℕ → List ℕ → List ℕ → ℕ
 plateNumber b p n t = first (plateRules b p n t)
+
+-- the place of the first that is seen, or the number of records
+unfoldable pub platePlace : List ℕ → List ℕ → List ℕ → List ℕ → ℕ
+platePlace b p n t = place (seen p n t) (records b)
 
 -- the slot itself: the one that is seen
 unfoldable pub plateSlot : List ℕ → List ℕ → List ℕ → List ℕ → List ℕ

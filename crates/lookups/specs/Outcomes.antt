@@ -1,10 +1,16 @@
--- Two outcomes of one call are one, for each public function of this crate: the number that it writes and the part
--- that it hands back. Assumes nothing.
+-- Two outcomes of one call are one, for each public function of this crate: the place, or the number that it writes and
+-- the part that it hands back. Assumes nothing.
 use mathlib.Core.Path.{_≡_}
 use mathlib.Core.List.{List}
 use Prim.Native.Nat.{ℕ}
 use Rattle.theory.specs.Outcome.{one-outcome}
-use Rattle.lookups.specs.Lookup.{panNumber, panSlot, plateNumber, plateSlot}
+use Rattle.lookups.specs.Lookup.{panNumber, panPlace, panSlot, plateNumber, platePlace, plateSlot}
+
+pub pan-place-one : (b key : List ℕ) (r s : ℕ) → r ≡ panPlace b key → s ≡ panPlace b key → r ≡ s
+pan-place-one b key r s = one-outcome
+
+pub plate-place-one : (b p n t : List ℕ) (r s : ℕ) → r ≡ platePlace b p n t → s ≡ platePlace b p n t → r ≡ s
+plate-place-one b p n t r s = one-outcome
 
 module _ (b key : List ℕ) (number number′ : ℕ) (part part′ : List ℕ) where
   pub pan-one : (number ≡ panNumber b key) × (part ≡ panSlot b key) → (number′ ≡ panNumber b key) × (part′ ≡ panSlot b key)

@@ -8,7 +8,7 @@ ghost use Rattle.theory.specs.Count.{bump};
 ghost use Rattle.theory.specs.Place.{place};
 ghost use Rattle.lines.specs.End.{active};
 ghost use Rattle.register.specs.Register.{slotsOf};
-ghost use Rattle.lookups.specs.Lookup.{panNumber, panSlot, seen, plateNumber, plateSlot};
+ghost use Rattle.lookups.specs.Lookup.{panNumber, panPlace, panSlot, seen, plateNumber, platePlace, plateSlot};
 
 const SLOT: usize = 128;
 
@@ -71,6 +71,13 @@ fn pan_number(b: &[u8], key: &[u8]) -> u64
     rules::first(!register::in_order(b), 23, v40)
 }
 
+// The place of the record with this PAN, or the number of records.
+pub fn place_by_pan(b: &[u8], key: &[u8]) -> usize
+    ensures { λ r. ⌜ r ≡ panPlace (now (b .entry)) (now (key .entry)) ⌝ }
+{
+    register::find(register::used_part(b), key)
+}
+
 pub fn by_pan<'a>(b: &'a [u8], key: &[u8], number: &mut u64) -> &'a [u8]
     ensures { λ r. ⌜ (now (number .exit) ≡ panNumber (now (b .entry)) (now (key .entry))) × (now r ≡ panSlot (now (b .entry)) (now (key .entry))) ⌝ }
 {
@@ -79,7 +86,7 @@ pub fn by_pan<'a>(b: &'a [u8], key: &[u8], number: &mut u64) -> &'a [u8]
     if answer != 0 {
         return &b[0..0];
     }
-    texts::part(b, SLOT, register::find(register::used_part(b), key))
+    texts::part(b, SLOT, place_by_pan(b, key))
 }
 
 fn plate_number(b: &[u8], p: &[u8], n: &[u8], t: &[u8]) -> u64
@@ -93,6 +100,13 @@ fn plate_number(b: &[u8], p: &[u8], n: &[u8], t: &[u8]) -> u64
     rules::first(!times::is_real_time(t), 22, v23)
 }
 
+// The place of the first record that is seen, or the number of records.
+pub fn place_by_plate(b: &[u8], p: &[u8], n: &[u8], t: &[u8]) -> usize
+    ensures { λ r. ⌜ r ≡ platePlace (now (b .entry)) (now (p .entry)) (now (n .entry)) (now (t .entry)) ⌝ }
+{
+    find_seen(register::used_part(b), p, n, t)
+}
+
 pub fn by_plate<'a>(b: &'a [u8], p: &[u8], n: &[u8], t: &[u8], number: &mut u64) -> &'a [u8]
     ensures { λ r. ⌜ (now (number .exit) ≡ plateNumber (now (b .entry)) (now (p .entry)) (now (n .entry)) (now (t .entry))) × (now r ≡ plateSlot (now (b .entry)) (now (p .entry)) (now (n .entry)) (now (t .entry))) ⌝ }
 {
@@ -101,5 +115,5 @@ pub fn by_plate<'a>(b: &'a [u8], p: &[u8], n: &[u8], t: &[u8], number: &mut u64)
     if answer != 0 {
         return &b[0..0];
     }
-    texts::part(b, SLOT, find_seen(register::used_part(b), p, n, t))
+    texts::part(b, SLOT, place_by_plate(b, p, n, t))
 }

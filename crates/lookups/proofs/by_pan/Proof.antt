@@ -1,6 +1,6 @@
 -- Assumes nothing.
+use Rattle.lookups.proofs.Laws.{pan-refused, pan-within, pan-handed}
 use borrow.Author.Needs.{needs}
-use Rattle.lookups.proofs.Laws.{pan-fits, pan-found, pan-refused}
 use Rattle.lookups.proofs.by_pan.Statement.{statement}
 use Rattle.lookups.proofs.by_pan.Tie as tie
 
@@ -8,10 +8,10 @@ returns : tie.Need-returns
 returns c = (c .before .before .pan-number .ensures, pan-refused _ _ _ (c .before .before .pan-number .ensures) (c .before .if1 .taken))
 
 part-requires : tie.Need-part-requires
-part-requires c κs = pan-fits _ _ _ _ (c .before .used-part .ensures) (c .find .ensures) _ (c .before .before .before .pan-number .ensures) (c .before .before .if1 .left)
+part-requires c κs = pan-within _ _ _ (c .before .before .pan-number .ensures) (c .before .if1 .left) _ (c .place-by-pan .ensures)
 
 returns-2 : tie.Need-returns-2
-returns-2 c = (c .before .before .before .before .pan-number .ensures, pan-found _ _ _ _ (c .before .before .used-part .ensures) (c .before .find .ensures) _ (c .before .before .before .before .pan-number .ensures) (c .before .before .before .if1 .left) _ (c .part .ensures))
+returns-2 c = let x = c .before .before .before in (x .pan-number .ensures, pan-handed _ _ _ (x .pan-number .ensures) (c .before .before .if1 .left) _ (c .before .place-by-pan .ensures) _ (c .part .ensures))
 
 pub by-pan-spec : {M : Type 1} → statement M
 by-pan-spec =
@@ -22,7 +22,6 @@ by-pan-spec =
     (λ c. search needs)
     (λ c. search needs)
     returns
-    (λ c κs. search needs)
     (λ c κs. search needs)
     part-requires
     returns-2)

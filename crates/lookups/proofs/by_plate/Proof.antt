@@ -1,6 +1,6 @@
 -- Assumes nothing.
+use Rattle.lookups.proofs.Laws.{plate-refused, plate-within, plate-handed}
 use borrow.Author.Needs.{needs}
-use Rattle.lookups.proofs.Laws.{plate-fits, plate-found, plate-refused}
 use Rattle.lookups.proofs.by_plate.Statement.{statement}
 use Rattle.lookups.proofs.by_plate.Tie as tie
 
@@ -8,10 +8,10 @@ returns : tie.Need-returns
 returns c = (c .before .before .plate-number .ensures, plate-refused _ _ _ _ _ (c .before .before .plate-number .ensures) (c .before .if1 .taken))
 
 part-requires : tie.Need-part-requires
-part-requires c κs = plate-fits _ _ _ _ _ (c .before .used-part .ensures) _ (c .find-seen .ensures) _ (c .before .before .before .plate-number .ensures) (c .before .before .if1 .left)
+part-requires c κs = plate-within _ _ _ _ _ (c .before .before .plate-number .ensures) (c .before .if1 .left) _ (c .place-by-plate .ensures)
 
 returns-2 : tie.Need-returns-2
-returns-2 c = (c .before .before .before .before .plate-number .ensures, plate-found _ _ _ _ _ (c .before .before .used-part .ensures) _ (c .before .find-seen .ensures) _ (c .before .before .before .before .plate-number .ensures) (c .before .before .before .if1 .left) _ (c .part .ensures))
+returns-2 c = let x = c .before .before .before in (x .plate-number .ensures, plate-handed _ _ _ _ _ (x .plate-number .ensures) (c .before .before .if1 .left) _ (c .before .place-by-plate .ensures) _ (c .part .ensures))
 
 pub by-plate-spec : {M : Type 1} → statement M
 by-plate-spec =
@@ -22,7 +22,6 @@ by-plate-spec =
     (λ c. search needs)
     (λ c. search needs)
     returns
-    (λ c κs. search needs)
     (λ c κs. search needs)
     part-requires
     returns-2)

@@ -1,0 +1,56 @@
+//! A file whose lines are all right, as long as is asked for.
+
+pub const RECEPTION: &[u8] = b"20250310050000";
+const SENDER: &str = "900123";
+
+/// A number and a Luhn digit behind it: a PAN of 16 digits.
+pub fn pan(i: usize) -> String {
+    let front = format!("97990012{i:07}");
+    let sum: u32 = front
+        .bytes()
+        .rev()
+        .enumerate()
+        .map(|(at, b)| {
+            let digit = u32::from(b - b'0') * if at % 2 == 0 { 2 } else { 1 };
+            digit / 10 + digit % 10
+        })
+        .sum();
+    format!("{front}{}", (10 - sum % 10) % 10)
+}
+
+pub fn plate(i: usize) -> String {
+    format!("{:<10}", format!("GS{i:04}"))
+}
+
+/// A line that meets every rule; `1` and LF around it.
+pub fn line(i: usize) -> String {
+    let pan = pan(i);
+    let plate = plate(i);
+    let line = format!(
+        "1{SENDER}      {pan:<19}{plate}DE 3110{:0>12}{:0>18}{:<6}02Y   000000000{:014}00{:011}\n",
+        format!("{i:X}"),
+        format!("{i:X}"),
+        "Euro6",
+        0,
+        0
+    );
+    assert_eq!(line.len(), 128);
+    line
+}
+
+/// A file of so many lines, each with a PAN and a plate of its own.
+pub fn hgv(lines: usize) -> Vec<u8> {
+    let mut file = format!(
+        "0{SENDER}000002HGV{SENDER}2025031001HGV{:016}{:014}{lines:015}20250310040000120001{:027}\n",
+        0, 0, 0
+    );
+    assert_eq!(file.len(), 128);
+    (0..lines).for_each(|i| file += &line(i));
+    file += &format!("2{:062}\n", 0);
+    file.into_bytes()
+}
+
+/// The one issuer row that fits them.
+pub fn row() -> Vec<u8> {
+    format!("{:<14}0616{SENDER}", "979900").into_bytes()
+}

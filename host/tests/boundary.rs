@@ -1,0 +1,46 @@
+//! Every declaration of `proved` called once with an answer and once with a refusal, and compared with the plain one.
+
+use graftspindle_host::{plain, proved, sample};
+
+/// A register of four slots after an import of three lines, by both.
+fn imported() -> Vec<u8> {
+    let (mut register, mut hgc) = (vec![0; 4 * 128], vec![7; 300]);
+    let (mut other, mut told) = (register.clone(), hgc.clone());
+    let (rows, hgv) = (sample::row(), sample::hgv(3));
+    let done = proved::import(1, sample::RECEPTION, &mut register, &rows, &hgv, &mut hgc);
+    let plain = plain::import(1, sample::RECEPTION, &mut other, &rows, &hgv, &mut told);
+    assert_eq!((done.number, done.taken, done.rejected, done.length), (0, 3, 0, 174));
+    assert_eq!((plain.number, plain.taken, plain.rejected, plain.length), (0, 3, 0, 174));
+    assert!(register == other && hgc == told);
+    register
+}
+
+#[test]
+fn a_stop_writes_nothing() {
+    let (mut register, mut hgc) = (vec![0; 128], vec![7; 173]);
+    let done = proved::import(3, sample::RECEPTION, &mut register, &sample::row(), &sample::hgv(3), &mut hgc);
+    assert_eq!((done.number, done.taken, done.rejected, done.length), (21, 0, 0, 0));
+    assert!(register == vec![0; 128] && hgc == vec![7; 173]);
+}
+
+#[test]
+fn by_pan() {
+    let register = imported();
+    for i in 0..4 {
+        let pan = format!("{:<19}", sample::pan(i));
+        let found = proved::by_pan(&register, pan.as_bytes());
+        assert_eq!(found, plain::by_pan(&register, pan.as_bytes()));
+        assert_eq!(found, if i < 3 { (0, i * 128..i * 128 + 128) } else { (41, 0..0) });
+    }
+}
+
+#[test]
+fn by_plate() {
+    let register = imported();
+    for i in 0..4 {
+        let plate = sample::plate(i);
+        let found = proved::by_plate(&register, plate.as_bytes(), b"DE ", sample::RECEPTION);
+        assert_eq!(found, plain::by_plate(&register, plate.as_bytes(), b"DE ", sample::RECEPTION));
+        assert_eq!(found, if i < 3 { (0, i * 128..i * 128 + 128) } else { (41, 0..0) });
+    }
+}
