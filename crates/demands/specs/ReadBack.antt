@@ -41,11 +41,34 @@ use Rattle.pairing.specs.Laws.{told-is}
 use Rattle.pairing.specs.Firsts.{marks-is, left-is}
 use Rattle.pairing.specs.Faithful.{Judges, lines-first}
 use Rattle.receipts.specs.Receipt.{
-  answersIn, answersOf, takenOf, rejectedOf, reasonOf, reasonHolds, textsOf, marksOf, takenBy, copiesHold, countsHold, lineHolds, takenHold,
-  receiptHolds, readVerdicts,
+  answersIn,
+  answersOf,
+  takenOf,
+  rejectedOf,
+  reasonOf,
+  reasonHolds,
+  textsOf,
+  marksOf,
+  takenBy,
+  copiesHold,
+  countsHold,
+  lineHolds,
+  takenHold,
+  receiptHolds,
+  readVerdicts,
 }
 use Rattle.receipts.specs.Written.{
-  same-texts, each-answered, answers-in, answers-of, taken-of, rejected-of, form-holds, names-hold, outcome-holds, reception-is, copies-of,
+  same-texts,
+  each-answered,
+  answers-in,
+  answers-of,
+  taken-of,
+  rejected-of,
+  form-holds,
+  names-hold,
+  outcome-holds,
+  reception-is,
+  copies-of,
 }
 use Rattle.demands.specs.Laws.{map-fixed, each-both, each-verdict, each-picked, pick-marked}
 use Rattle.demands.specs.Reasons.{verdict-named, reason-holds}

@@ -68,24 +68,42 @@ module _ (mode : ℕ) (reception register rows h hgc vs : List ℕ) (t r : ℕ) 
 
     pub apply-fits : (length vs * lineLength ≤ length ls) × ((inOrder register ≡ true) × Fit mode from reception (slotsIn register) (records register) (pick good vs (chop lineLength (length vs) ls)))
     unfolding following
-    apply-fits =
-        (rw el (lines-there mode reception register rows h c vs (a .verdicts)), (c .ordered, rw (lines-taken, ef)
-        record {
-          received = c .received;
-          lined = lines-hold mode reception register rows h c;
-          apart = lines-apart mode reception register rows h c;
-          free = lines-free mode reception register rows h c;
-          room = a .slots;
-        }))
+    apply-fits = (
+      rw el (lines-there mode reception register rows h c vs (a .verdicts)),
+      (
+        c .ordered,
+        rw (lines-taken, ef)
+            record {
+              received = c .received;
+              lined = lines-hold mode reception register rows h c;
+              apart = lines-apart mode reception register rows h c;
+              free = lines-free mode reception register rows h c;
+              room = a .slots;
+            },
+      ),
+    )
 
     pub applied : (b : List ℕ) → Holds (slotsIn register) (holdings mode from reception (records register) (pick good vs (chop lineLength (length vs) ls))) b → b ≡ written mode reception register rows h
     unfolding written following
     applied b k = k .bytes ∙ rw (lines-taken, ef)
 
   pub write-fits : (length reception ≡ 14) × ((lengthHolds h ≡ true) × ((length vs ≡ linesIn h) × ((t ≡ tally good vs) × ((r ≡ tally bad vs) × (confirmationLength r ≤ length hgc)))))
-  write-fits =
-      (real-length reception (c .received), (c .sized, (verdict-each mode reception register rows h c vs (a .verdicts), (a .taken-are, (a .rejected-are,
-      rw (← confirmed-length mode reception register rows h c vs (a .verdicts) r (a .rejected-are)) (a .buffer))))))
+  write-fits = (
+    real-length reception (c .received),
+    (
+      c .sized,
+      (
+        verdict-each mode reception register rows h c vs (a .verdicts),
+        (
+          a .taken-are,
+          (
+            a .rejected-are,
+            rw (← confirmed-length mode reception register rows h c vs (a .verdicts) r (a .rejected-are)) (a .buffer),
+          ),
+        ),
+      ),
+    ),
+  )
 
   pub told-is : (g : List ℕ) → g ≡ confirmation reception h vs ++ drop (length (confirmation reception h vs)) hgc → g ≡ told reception register rows h hgc
   unfolding told confirmed

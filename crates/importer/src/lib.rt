@@ -25,18 +25,36 @@ pub struct Imported {
 fn refused(number: u64) -> Imported
     ensures { λ r. ⌜ r ≡ refusal number ⌝ }
 {
-    Imported { number, taken: 0, rejected: 0, length: 0 }
+    Imported {
+        number,
+        taken: 0,
+        rejected: 0,
+        length: 0,
+    }
 }
 
 // The sender of a file.
 fn sender<'a>(hgv: &'a [u8]) -> &'a [u8]
     ensures { λ r. ⌜ now r ≡ sender (now (hgv .entry)) ⌝ }
 {
-    texts::field(hgv, header::columns::SENDER_FROM, header::columns::SENDER_TO)
+    texts::field(
+        hgv,
+        header::columns::SENDER_FROM,
+        header::columns::SENDER_TO,
+    )
 }
 
 // Stops 33 and 34.
-fn room_stop(mode: u64, reception: &[u8], register: &[u8], rows: &[u8], hgv: &[u8], hgc: &[u8], verdicts: &[u8], rejected: u64) -> u64
+fn room_stop(
+    mode: u64,
+    reception: &[u8],
+    register: &[u8],
+    rows: &[u8],
+    hgv: &[u8],
+    hgc: &[u8],
+    verdicts: &[u8],
+    rejected: u64,
+) -> u64
     requires { ⌜ Clear mode (now reception) (now register) (now rows) (now hgv) × ((now verdicts ≡ judged (now register) (now rows) (now hgv)) × (rejected ≡ tally bad (now verdicts))) ⌝ }
     ensures { λ r. ⌜ r ≡ first (roomStops mode (now (reception .entry)) (now (register .entry)) (now (rows .entry)) (now (hgv .entry)) (now (hgc .entry))) ⌝ }
 {
@@ -47,32 +65,89 @@ fn room_stop(mode: u64, reception: &[u8], register: &[u8], rows: &[u8], hgv: &[u
 }
 
 // The taken lines applied and the confirmation written: nothing can stop it any more.
-fn carry_out(mode: u64, reception: &[u8], register: &mut [u8], rows: &[u8], hgv: &[u8], hgc: &mut [u8], verdicts: &[u8], taken: u64, rejected: u64) -> Imported
+fn carry_out(
+    mode: u64,
+    reception: &[u8],
+    register: &mut [u8],
+    rows: &[u8],
+    hgv: &[u8],
+    hgc: &mut [u8],
+    verdicts: &[u8],
+    taken: u64,
+    rejected: u64,
+) -> Imported
     requires { ⌜ Accepted mode (now reception) (now register) (now rows) (now hgv) (now hgc) (now verdicts) taken rejected ⌝ }
     ensures { λ r. ⌜ (r ≡ success (now (reception .entry)) (now (register .entry)) (now (rows .entry)) (now (hgv .entry))) × ((now (register .exit) ≡ written mode (now (reception .entry)) (now (register .entry)) (now (rows .entry)) (now (hgv .entry))) × (now (hgc .exit) ≡ told (now (reception .entry)) (now (register .entry)) (now (rows .entry)) (now (hgv .entry)) (now (hgc .entry)))) ⌝ }
 {
-    applying::apply(mode, register, sender(hgv), reception, hgv::body(hgv), verdicts);
+    applying::apply(
+        mode,
+        register,
+        sender(hgv),
+        reception,
+        hgv::body(hgv),
+        verdicts,
+    );
     hgc::write(hgc, reception, hgv, verdicts, taken, rejected);
     let length = hgc::length_for(rejected as usize) as u64;
-    Imported { number: 0, taken, rejected, length }
+    Imported {
+        number: 0,
+        taken,
+        rejected,
+        length,
+    }
 }
 
 // The import of a file whose lines are judged.
-fn import_judged(mode: u64, reception: &[u8], register: &mut [u8], rows: &[u8], hgv: &[u8], hgc: &mut [u8], verdicts: &[u8]) -> Imported
+fn import_judged(
+    mode: u64,
+    reception: &[u8],
+    register: &mut [u8],
+    rows: &[u8],
+    hgv: &[u8],
+    hgc: &mut [u8],
+    verdicts: &[u8],
+) -> Imported
     requires { ⌜ Clear mode (now reception) (now register) (now rows) (now hgv) × (now verdicts ≡ judged (now register) (now rows) (now hgv)) ⌝ }
     ensures { λ r. ⌜ (r ≡ answer mode (now (reception .entry)) (now (register .entry)) (now (rows .entry)) (now (hgv .entry)) (now (hgc .entry))) × ((now (register .exit) ≡ registerAfter mode (now (reception .entry)) (now (register .entry)) (now (rows .entry)) (now (hgv .entry)) (now (hgc .entry))) × (now (hgc .exit) ≡ hgcAfter mode (now (reception .entry)) (now (register .entry)) (now (rows .entry)) (now (hgv .entry)) (now (hgc .entry)))) ⌝ }
 {
     let taken = verdicts::count_taken(verdicts);
     let rejected = verdicts.len() as u64 - taken;
-    let room = room_stop(mode, reception, register, rows, hgv, hgc, verdicts, rejected);
+    let room = room_stop(
+        mode,
+        reception,
+        register,
+        rows,
+        hgv,
+        hgc,
+        verdicts,
+        rejected,
+    );
     if room != 0 {
         return refused(room);
     }
-    carry_out(mode, reception, register, rows, hgv, hgc, verdicts, taken, rejected)
+    carry_out(
+        mode,
+        reception,
+        register,
+        rows,
+        hgv,
+        hgc,
+        verdicts,
+        taken,
+        rejected,
+    )
 }
 
 // The import of a file whose form is right; `verdicts` has a byte for each line.
-fn import_lines(mode: u64, reception: &[u8], register: &mut [u8], rows: &[u8], hgv: &[u8], hgc: &mut [u8], verdicts: &mut [u8]) -> Imported
+fn import_lines(
+    mode: u64,
+    reception: &[u8],
+    register: &mut [u8],
+    rows: &[u8],
+    hgv: &[u8],
+    hgc: &mut [u8],
+    verdicts: &mut [u8],
+) -> Imported
     requires { ⌜ Clear mode (now reception) (now register) (now rows) (now hgv) × (length (now verdicts) ≡ linesIn (now hgv)) ⌝ }
     ensures { λ r. ⌜ (r ≡ answer mode (now (reception .entry)) (now (register .entry)) (now (rows .entry)) (now (hgv .entry)) (now (hgc .entry))) × ((now (register .exit) ≡ registerAfter mode (now (reception .entry)) (now (register .entry)) (now (rows .entry)) (now (hgv .entry)) (now (hgc .entry))) × (now (hgc .exit) ≡ hgcAfter mode (now (reception .entry)) (now (register .entry)) (now (rows .entry)) (now (hgv .entry)) (now (hgc .entry)))) ⌝ }
 {
@@ -80,7 +155,14 @@ fn import_lines(mode: u64, reception: &[u8], register: &mut [u8], rows: &[u8], h
     import_judged(mode, reception, register, rows, hgv, hgc, verdicts)
 }
 
-pub fn import(mode: u64, reception: &[u8], register: &mut [u8], rows: &[u8], hgv: &[u8], hgc: &mut [u8]) -> Imported
+pub fn import(
+    mode: u64,
+    reception: &[u8],
+    register: &mut [u8],
+    rows: &[u8],
+    hgv: &[u8],
+    hgc: &mut [u8],
+) -> Imported
     ensures { λ r. ⌜ (r ≡ answer mode (now (reception .entry)) (now (register .entry)) (now (rows .entry)) (now (hgv .entry)) (now (hgc .entry))) × ((now (register .exit) ≡ registerAfter mode (now (reception .entry)) (now (register .entry)) (now (rows .entry)) (now (hgv .entry)) (now (hgc .entry))) × (now (hgc .exit) ≡ hgcAfter mode (now (reception .entry)) (now (register .entry)) (now (rows .entry)) (now (hgv .entry)) (now (hgc .entry)))) ⌝ }
 {
     let form = stops::form_stop(mode, reception, register, rows, hgv);
@@ -89,5 +171,13 @@ pub fn import(mode: u64, reception: &[u8], register: &mut [u8], rows: &[u8], hgv
     }
     let mut verdicts = [0u8; LINES];
     let n = hgv::lines_in(hgv);
-    import_lines(mode, reception, register, rows, hgv, hgc, &mut verdicts[..n])
+    import_lines(
+        mode,
+        reception,
+        register,
+        rows,
+        hgv,
+        hgc,
+        &mut verdicts[..n],
+    )
 }

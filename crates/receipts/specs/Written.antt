@@ -26,12 +26,39 @@ use Rattle.header.specs.Header.{sender, listSequence}
 use Rattle.hgc.specs.Confirmation.{headLength, answerLength, confirmationLength, zeros, outcome, head, answer, answers, foot, confirmation}
 use Rattle.hgc.specs.Laws.{length-head, length-foot, each-answer, count-answers, length-answers, length-confirmation}
 use Rattle.hgc.specs.Fields.{
-  head-type, head-sender, head-receiver, head-sequence, head-reception, head-taken, head-rejected, head-version, head-filler, head-outcome, head-end,
-  answer-type, answer-end, texts-answers, foot-form,
+  head-type,
+  head-sender,
+  head-receiver,
+  head-sequence,
+  head-reception,
+  head-taken,
+  head-rejected,
+  head-version,
+  head-filler,
+  head-outcome,
+  head-end,
+  answer-type,
+  answer-end,
+  texts-answers,
+  foot-form,
 }
 use Rattle.receipts.specs.Receipt.{
-  bareLength, answersIn, answersOf, footOf, receptionOf, takenOf, rejectedOf, lengthForm, headForm, answerForm, formHolds, namesHold, outcomeHolds,
-  textsOf, copiesOf, sameTexts,
+  bareLength,
+  answersIn,
+  answersOf,
+  footOf,
+  receptionOf,
+  takenOf,
+  rejectedOf,
+  lengthForm,
+  headForm,
+  answerForm,
+  formHolds,
+  namesHold,
+  outcomeHolds,
+  textsOf,
+  copiesOf,
+  sameTexts,
 }
 
 -- a list of texts is the same as itself

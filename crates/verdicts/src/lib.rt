@@ -48,7 +48,14 @@ fn own_fault(l: &[u8], sender: &[u8], rows: &[u8], held: &[u8]) -> u8
 }
 
 // The verdict of line i, beside those of the lines before it.
-fn verdict_at(lines: &[u8], i: usize, verdicts: &[u8], sender: &[u8], rows: &[u8], held: &[u8]) -> u8
+fn verdict_at(
+    lines: &[u8],
+    i: usize,
+    verdicts: &[u8],
+    sender: &[u8],
+    rows: &[u8],
+    held: &[u8],
+) -> u8
     requires { ⌜ (i * 128 + 128 ≤ length (now lines)) × (i ≤ length (now verdicts)) ⌝ }
     ensures { λ r. ⌜ r ≡ verdict (now (rows .entry)) (now (sender .entry)) (slotsOf (now (held .entry))) (pick good (now (verdicts .entry)) (chop 128 i (now (lines .entry)))) (partAt 128 i (now (lines .entry))) ⌝ }
 {
@@ -83,7 +90,11 @@ pub fn judge(hgv: &[u8], rows: &[u8], register: &[u8], verdicts: &mut [u8])
     ensures { λ _. ⌜ now (verdicts .exit) ≡ fileVerdicts (now (rows .entry)) (records (now (register .entry))) (now (hgv .entry)) ⌝ }
 {
     let lines = hgv::body(hgv);
-    let sender = texts::field(hgv, header::columns::SENDER_FROM, header::columns::SENDER_TO);
+    let sender = texts::field(
+        hgv,
+        header::columns::SENDER_FROM,
+        header::columns::SENDER_TO,
+    );
     judge_lines(lines, sender, rows, register::used_part(register), verdicts);
 }
 
