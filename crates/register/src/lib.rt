@@ -75,7 +75,10 @@ fn is_of(r: &[u8], who: &[u8]) -> bool
 fn holds_foreign(r: &[u8], pan: &[u8], who: &[u8]) -> bool
     ensures { λ t. ⌜ t ≡ holdsForeign (now (pan .entry)) (now (who .entry)) (now (r .entry)) ⌝ }
 {
-    holds_pan(r, pan) & !is_of(r, who)
+    if !holds_pan(r, pan) {
+        return false;
+    }
+    !is_of(r, who)
 }
 
 // Has one of the slots this PAN under another actor than `who` (L11).
