@@ -1,5 +1,11 @@
-//! The proved account register, called from Rust, and the same written once more in plain Rust to compare it with.
+//! The proved account register, called from Rust, and the same written from the definition by another hand, to compare it
+//! with: `plain` follows the definition sentence by sentence, `hashed` answers the same with hashed searches, and
+//! `generate` makes inputs from a seed, right ones and damaged ones.
 
+#[forbid(unsafe_code)]
+pub mod generate;
+#[forbid(unsafe_code)]
+pub mod hashed;
 #[forbid(unsafe_code)]
 pub mod plain;
 pub mod proved;

@@ -90,7 +90,13 @@ fn import_stop_25_to_32(mode: u64, rows: &[u8], hgv: &[u8]) -> u64 {
 }
 
 /// What the used slots are after taken lines of a sender.
-fn after(mode: u64, register: &[u8], sender: &[u8], taken: &[&[u8]], reception: &[u8]) -> Vec<Vec<u8>> {
+fn after(
+    mode: u64,
+    register: &[u8],
+    sender: &[u8],
+    taken: &[&[u8]],
+    reception: &[u8],
+) -> Vec<Vec<u8>> {
     if mode == 1 {
         register::after_mode_1(register, taken, reception)
     } else {
@@ -174,7 +180,13 @@ pub fn by_pan(register: &[u8], pan: &[u8]) -> (u64, Range<usize>) {
 }
 
 /// The first of 22, 23, 40, or 0.
-pub fn plate_stop(register: &[u8], plate: &[u8], nationality: &[u8], time: &[u8], in_order: InOrder) -> u64 {
+pub fn plate_stop(
+    register: &[u8],
+    plate: &[u8],
+    nationality: &[u8],
+    time: &[u8],
+    in_order: InOrder,
+) -> u64 {
     if !is_real_time(time) {
         return 22;
     }
@@ -187,7 +199,12 @@ pub fn plate_stop(register: &[u8], plate: &[u8], nationality: &[u8], time: &[u8]
     0
 }
 
-pub fn by_plate(register: &[u8], plate: &[u8], nationality: &[u8], time: &[u8]) -> (u64, Range<usize>) {
+pub fn by_plate(
+    register: &[u8],
+    plate: &[u8],
+    nationality: &[u8],
+    time: &[u8],
+) -> (u64, Range<usize>) {
     let stop = plate_stop(register, plate, nationality, time, in_order);
     if stop != 0 {
         return (stop, 0..0);

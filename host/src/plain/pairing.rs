@@ -80,7 +80,8 @@ fn counts_right(hgc: &[u8], taken: usize, copies: usize) -> bool {
 
 /// "the HGC's copies are not the lines left, in order".
 fn copies_right(left: &[&[u8]], copies: &[&[u8]]) -> bool {
-    left.len() == copies.len() && left.iter().zip(copies).all(|(l, c)| line::text(l) == line::text(c))
+    left.len() == copies.len()
+        && left.iter().zip(copies).all(|(l, c)| line::text(l) == line::text(c))
 }
 
 /// The clauses on the taken lines. `differ` tells whether all PANs of lines are different.

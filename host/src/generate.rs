@@ -1,0 +1,18 @@
+//! Inputs from a seed: right ones, both sides of each limit, and damaged ones.
+
+pub mod case;
+pub mod damage;
+pub mod file;
+pub mod large;
+pub mod line;
+pub mod pair;
+pub mod question;
+pub mod rng;
+pub mod sequence;
+pub mod world;
+
+pub use case::{case, Case};
+pub use large::large;
+pub use pair::{pair, Pair};
+pub use question::{question, Question};
+pub use sequence::{sequence, slots, Event};

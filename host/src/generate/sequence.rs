@@ -1,0 +1,65 @@
+//! Imports one after the other, by several providers, into one register.
+
+use super::case::lines;
+use super::damage::{change_one_byte, wrong_mode, wrong_time};
+use super::file::{header, hgv};
+use super::line::reception;
+use super::rng::Rng;
+use super::world::World;
+
+#[derive(Debug, Clone, PartialEq, Eq)]
+pub struct Event {
+    pub mode: u64,
+    pub reception: Vec<u8>,
+    pub rows: Vec<u8>,
+    pub hgv: Vec<u8>,
+    pub hgc_len: usize,
+}
+
+fn event(rng: &mut Rng, world: &World) -> Event {
+    let sender = world.actor(rng);
+    let reception = reception(rng);
+    let mut header = header(rng, &sender);
+    let mode = rng.between(1, 2) as u64;
+    if mode == 2 && !rng.one_in(10) {
+        header.version = b"120001".to_vec();
+    }
+    let lines = lines(rng, world, &sender, &reception, 7);
+    let hgc_len = 174 + 130 * lines.len();
+    Event { mode, reception, rows: world.bytes(), hgv: hgv(&header, &lines), hgc_len }
+}
+
+/// A few events that are refused, each for one thing.
+fn spoil(rng: &mut Rng, event: &mut Event) {
+    match rng.below(5) {
+        0 => event.mode = wrong_mode(rng),
+        1 => event.reception = wrong_time(rng),
+        2 => event.rows.truncate(event.rows.len() - 1),
+        3 => change_one_byte(rng, &mut event.hgv),
+        _ => event.hgc_len = rng.below(event.hgc_len),
+    }
+}
+
+/// How many slots the register of a sequence has: few, so that 33 happens.
+pub fn slots(seed: u64) -> usize {
+    [0, 1, 4, 8, 16, 40][Rng::new(seed ^ 0xABCD).below(6)]
+}
+
+/// The rows change on the way: an issuer may lose one or gain one.
+pub fn sequence(seed: u64) -> Vec<Event> {
+    let mut rng = Rng::new(seed);
+    let mut world = World::new(&mut rng);
+    let mut events = Vec::new();
+    for _ in 0..rng.between(1, 14) {
+        let mut event = event(&mut rng, &world);
+        if rng.one_in(6) {
+            spoil(&mut rng, &mut event);
+        }
+        events.push(event);
+        if rng.one_in(8) && world.rows.len() > 1 {
+            let gone = rng.below(world.rows.len());
+            world.rows.remove(gone);
+        }
+    }
+    events
+}

@@ -1,0 +1,24 @@
+//! The definition's own cases and the comparison of both implementations.
+
+#[path = "definition/agreement.rs"]
+mod agreement;
+#[path = "definition/common.rs"]
+mod common;
+#[path = "definition/exhaustive.rs"]
+mod exhaustive;
+#[path = "definition/limits.rs"]
+mod limits;
+#[path = "definition/lines.rs"]
+mod lines;
+#[path = "definition/lookups.rs"]
+mod lookups;
+#[path = "definition/order.rs"]
+mod order;
+#[path = "definition/pairing.rs"]
+mod pairing;
+#[path = "definition/provider.rs"]
+mod provider;
+#[path = "definition/registers.rs"]
+mod registers;
+#[path = "definition/size.rs"]
+mod size;

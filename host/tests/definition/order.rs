@@ -1,0 +1,98 @@
+//! For each two stops of an order, an input where both apply: the first answers.
+
+use crate::common::*;
+
+struct Input {
+    mode: u64,
+    reception: Vec<u8>,
+    register: Vec<u8>,
+    rows: Vec<u8>,
+    hgv: Vec<u8>,
+    hgc: Vec<u8>,
+    room: usize,
+}
+
+/// One line, taken into one slot; buffer or verdict block just long enough.
+fn right(room: usize) -> Input {
+    Input {
+        mode: 1,
+        reception: R0.to_vec(),
+        register: free(1),
+        rows: ROW0.to_vec(),
+        hgv: hgv(&[x()]),
+        hgc: hgc(1, &[]),
+        room,
+    }
+}
+
+fn apply(number: u64, input: &mut Input) {
+    match number {
+        21 => input.mode = 3,
+        22 => input.reception = b"2".to_vec(),
+        23 => input.register.push(0),
+        24 => input.rows.push(b'0'),
+        25 => input.hgv.push(b'0'),
+        26 => input.hgv[0] = b'9',
+        27 => input.hgv[94..100].copy_from_slice(b"500001"),
+        28 => (input.mode, input.hgv[94]) = (2, b'2'),
+        29 => input.hgv[12] = b'3',
+        30 => input.hgv[79] = b'2',
+        31 => input.hgv[256] = b'3',
+        32 => input.hgv[128] = b'2',
+        33 => input.register.clear(),
+        34 | 53 => input.room -= 1,
+        51 => input.register = with(&y(), 2, b"900124"),
+        52 => input.hgc.push(b'0'),
+        _ => unreachable!(),
+    }
+}
+
+/// The later fault is put in first, so that the earlier one stays whole.
+fn assert_order(order: &[u64], room: usize, answer: impl Fn(Input) -> u64) {
+    assert_eq!(answer(right(room)), 0);
+    for (place, &first) in order.iter().enumerate() {
+        for second in order[place..].iter() {
+            let mut input = right(room);
+            apply(*second, &mut input);
+            if first != *second {
+                apply(first, &mut input);
+            }
+            assert_eq!(answer(input), first, "{first} before {second}");
+        }
+    }
+}
+
+#[test]
+fn import_order() {
+    let order = [21, 22, 23, 24, 25, 26, 27, 28, 29, 30, 31, 32, 33, 34];
+    for engine in ENGINES {
+        assert_order(&order, 174, |i| {
+            run(engine, i.mode, &i.reception, &i.register, &i.rows, &i.hgv, i.room).answer.number
+        });
+    }
+}
+
+#[test]
+fn read_back_order() {
+    for engine in ENGINES {
+        assert_order(&[25, 26, 27, 29, 30, 31, 32, 52, 53], 1, |i| {
+            let mut block = vec![0xEE; i.room];
+            let answer = (engine.read_back)(&i.hgv, &i.hgc, &mut block);
+            assert!(answer.number == 0 || block.iter().all(|&b| b == 0xEE));
+            answer.number
+        });
+    }
+}
+
+#[test]
+fn update_order() {
+    let order = [21, 23, 25, 26, 27, 28, 29, 51, 30, 31, 32, 52, 33];
+    for engine in ENGINES {
+        assert_order(&order, 0, |i| {
+            let mut copy = i.register.clone();
+            let answer = (engine.update)(i.mode, &mut copy, &i.hgv, &i.hgc);
+            assert!(answer.number == 0 || copy == i.register);
+            answer.number
+        });
+    }
+}
