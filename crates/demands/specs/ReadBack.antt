@@ -10,11 +10,11 @@ use lib.Seq.{take-append-seam}
 use borrow.Author.Tests.{eq-eqb}
 use Rattle.theory.specs.Truth.{and-both}
 use Rattle.theory.specs.First.{first}
-use Rattle.theory.specs.Each.{each-map}
+use Rattle.theory.specs.Each.{each-map, each-both, map-fixed}
 use Rattle.theory.specs.Walk.{each, each-passes, passes-each}
-use Rattle.theory.specs.Pick.{good, bad, pick}
+use Rattle.theory.specs.Pick.{good, bad, pick, each-picked}
 use Rattle.theory.specs.Tally.{tally, tally-pick, tallies}
-use Rattle.theory.specs.Scan.{some-key}
+use Rattle.theory.specs.Scan.{some-key, each-verdict}
 use Rattle.texts.specs.Field.{field}
 use Rattle.numbers.specs.Number.{number, decimal}
 use Rattle.numbers.specs.Laws.{number-2, number-15}
@@ -37,7 +37,7 @@ use Rattle.importer.specs.Import.{judged, confirmed, numberOf, success, told, a
 use Rattle.importer.specs.Accepted.{verdict-each, lines-hold, lines-his, lines-apart}
 use Rattle.importer.specs.Numbers.{accepted-clear, done-answer, done-hgc}
 use Rattle.pairing.specs.Pairing.{mark, firsts}
-use Rattle.pairing.specs.Laws.{told-is}
+use Rattle.pairing.specs.Laws.{pick-marked, told-is}
 use Rattle.pairing.specs.Firsts.{marks-is, left-is}
 use Rattle.pairing.specs.Faithful.{Judges, lines-first}
 use Rattle.receipts.specs.Receipt.{
@@ -54,6 +54,8 @@ use Rattle.receipts.specs.Receipt.{
   countsHold,
   lineHolds,
   takenHold,
+  saysHold,
+  linesHold,
   receiptHolds,
   readVerdicts,
 }
@@ -70,7 +72,6 @@ use Rattle.receipts.specs.Written.{
   reception-is,
   copies-of,
 }
-use Rattle.demands.specs.Laws.{map-fixed, each-both, each-verdict, each-picked, pick-marked}
 use Rattle.demands.specs.Reasons.{verdict-named, reason-holds}
 
 -- a line's verdict asks for its own fault, and then for its PAN among the lines taken before
@@ -218,7 +219,7 @@ module _ (mode : ℕ) (reception register rows h hgc : List ℕ) (e : numberOf m
 
   -- 52 is not given
   pub receipt : receiptHolds h g ≡ true
-  unfolding receiptHolds confirmed
+  unfolding receiptHolds saysHold linesHold confirmed
   receipt =
       rw (
         form-holds reception h vs dated (c .sized) one-each,

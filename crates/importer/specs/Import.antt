@@ -1,11 +1,11 @@
 -- The import: its stops, its answer, the register after it and the HGC's buffer after it, for every mode and every text
 -- of every length. Assumes nothing.
 use Prim.Native.Nat.{ℕ}
-use mathlib.Core.Bool.{Bool, cond}
 use mathlib.Core.List.{List, [], _∷_, _++_}
-use lib.Dec.{eqb, ltb}
+use lib.Dec.{ltb}
 use lib.ListN.{length, drop}
 use Rattle.theory.specs.First.{Rule, _if_, first}
+use Rattle.theory.specs.Stopped.{unlessStopped}
 use Rattle.theory.specs.Join.{flat}
 use Rattle.theory.specs.Pad.{pad}
 use Rattle.theory.specs.Pick.{good, bad}
@@ -44,10 +44,6 @@ stops mode reception register rows h hgc = formStops mode reception register row
 -- the number answered: the first that holds, 0 for success
 unfoldable pub numberOf : ℕ → List ℕ → List ℕ → List ℕ → List ℕ → List ℕ → ℕ
 numberOf mode reception register rows h hgc = first (stops mode reception register rows h hgc)
-
--- what is done on success, and what stays at a stop
-unfoldable pub unlessStopped : {A : Type 0} → ℕ → A → A → A
-unlessStopped number done stays = cond (eqb number 0) done stays
 
 -- a stop returns its number and zeros
 unfoldable pub refusal : ℕ → Imported

@@ -5,7 +5,7 @@ use Prim.Native.Nat.{ℕ, zero, suc}
 use lib.ListN.{length}
 use Rattle.theory.specs.Count.{bump}
 use Rattle.theory.specs.Keep.{onto}
-use Rattle.theory.specs.Pick.{bad, pick}
+use Rattle.theory.specs.Pick.{good, bad, pick}
 use Rattle.pairing.specs.Pairing.{marksFrom, marks, told, mark}
 
 pub length-told : (ms rs : List ℕ) → length (told ms rs) ≡ length ms
@@ -36,6 +36,17 @@ unfolding pick
 pick-mark [] xs = refl
 pick-mark (v ∷ vs) [] = refl
 pick-mark (v ∷ vs) (x ∷ xs) = rw (bad-mark v, pick-mark vs xs)
+
+good-mark : (v : ℕ) → good (mark v) ≡ good v
+unfolding good bad mark bump
+good-mark zero = refl
+good-mark (suc v) = refl
+
+pub pick-marked : {A : Type 0} (vs : List ℕ) (xs : List A) → pick good (map mark vs) xs ≡ pick good vs xs
+unfolding pick
+pick-marked [] xs = refl
+pick-marked (v ∷ vs) [] = refl
+pick-marked (v ∷ vs) (x ∷ xs) = rw (good-mark v, pick-marked vs xs)
 
 -- the marks and the reasons give the verdicts again
 pub told-is : (vs : List ℕ) → told (map mark vs) (pick bad vs vs) ≡ vs

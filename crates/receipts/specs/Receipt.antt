@@ -123,11 +123,17 @@ lineHolds h l = of (sender h) l && recordHolds l
 unfoldable pub takenHold : List ℕ → List ℕ → Bool
 takenHold h g = distinct (map panOf (takenBy h g)) && each (lineHolds h) (takenBy h g)
 
+-- what it says by itself, and of whom: its form, receiver and list, reception, `00` or `01`, the reasons
+unfoldable pub saysHold : List ℕ → List ℕ → Bool
+saysHold h g = formHolds g && namesHold h g && realTime (receptionOf g) && outcomeHolds g && each reasonHolds (answersOf g)
+
+-- its lines beside the HGV's
+unfoldable pub linesHold : List ℕ → List ℕ → Bool
+linesHold h g = copiesHold h g && countsHold h g && takenHold h g
+
 -- 52 is given where this does not hold
 unfoldable pub receiptHolds : List ℕ → List ℕ → Bool
-receiptHolds h g =
-    formHolds g && namesHold h g && realTime (receptionOf g) && outcomeHolds g && each reasonHolds (answersOf g)
-    && copiesHold h g && countsHold h g && takenHold h g
+receiptHolds h g = saysHold h g && linesHold h g
 
 -- ---- what is read
 

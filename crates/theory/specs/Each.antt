@@ -1,4 +1,5 @@
 -- Each of a list has a property. Assumes nothing.
+use mathlib.Core.Path.{_≡_, refl}
 use mathlib.Core.List.{List, [], _∷_, _++_, map}
 use Prim.Native.Nat.{ℕ, zero, suc, _<_}
 use native.Mathlib.Omega.{arith}
@@ -48,3 +49,12 @@ pub each-set : {A : Type 0} {q : A → Type 0} {xs : List A} → Each q xs → (
 each-set none i x h = none
 each-set (more k ks) zero x h = more h ks
 each-set (more k ks) (suc i) x h = more k (each-set ks i x h)
+
+pub each-both : {A : Type 0} {p q : A → Type 0} {xs : List A} → Each p xs → Each q xs → Each (λ x. p x × q x) xs
+each-both none none = none
+each-both (more h hs) (more k ks) = more (h, k) (each-both hs ks)
+
+-- a change that changes none of a list
+pub map-fixed : {A : Type 0} (f : A → A) {xs : List A} → Each (λ x. f x ≡ x) xs → map f xs ≡ xs
+map-fixed f none = refl
+map-fixed f (more h hs) = rw (h, map-fixed f hs)

@@ -1,13 +1,14 @@
 -- Rules with numbers, in an order: the number of the first whose test holds, and 0 where none does.
 -- The stops and the rules of a line are lists of this kind. Assumes nothing.
 use mathlib.Core.Path.{_≡_, refl, _∙_}
-use mathlib.Core.Bool.{Bool, true, false, _&&_}
+use mathlib.Core.Bool.{Bool, true, false, _&&_, false≢true}
 use mathlib.Core.List.{List, [], _∷_, _++_}
 use Prim.Native.Nat.{ℕ, zero, suc, _≤_, _<_}
 use native.Mathlib.Omega.{arith}
 use lib.Dec.{leb, ltb}
 use borrow.Author.Tests.{leb-true, ltb-true}
 use Rattle.theory.specs.Truth.{and-left, and-right}
+use Rattle.theory.specs.Pick.{bad}
 
 pub record Rule : Type 0 where
   pub number : ℕ
@@ -125,3 +126,20 @@ first-most k (r ∷ rs) n =
     go : (b : Bool) → r .number ≤ k → first rs ≤ k → choose b (r .number) (first rs) ≤ k
     go true h m = h
     go false h m = m
+
+-- every rule has a number that passes the test
+unfoldable pub numberedBy : (ℕ → Bool) → List Rule → Bool
+numberedBy p [] = true
+numberedBy p (r ∷ rs) = p (r .number) && numberedBy p rs
+
+-- so the first that fits has, where one does
+pub first-passes : (p : ℕ → Bool) (rs : List Rule) → numberedBy p rs ≡ true → bad (first rs) ≡ true → p (first rs) ≡ true
+unfolding numberedBy first choose bad
+first-passes p [] n h = absurd (false≢true h)
+first-passes p (r ∷ rs) n h =
+    go (r .fits) (and-left (p (r .number)) (numberedBy p rs) n) (λ k. first-passes p rs (and-right (p (r .number)) (numberedBy p rs) n) k) h
+  where
+    go : (b : Bool) → p (r .number) ≡ true → (bad (first rs) ≡ true → p (first rs) ≡ true)
+        → bad (choose b (r .number) (first rs)) ≡ true → p (choose b (r .number) (first rs)) ≡ true
+    go true e k h = e
+    go false e k h = k h

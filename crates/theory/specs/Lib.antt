@@ -1,6 +1,7 @@
 pub mod Truth
 pub mod Outcome
 pub mod First
+pub mod Stopped
 pub mod Text
 pub mod Same
 pub mod Every

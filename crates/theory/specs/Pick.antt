@@ -119,3 +119,9 @@ unfolding count pick
 count-pick p t [] xs = omega arith
 count-pick p t (v ∷ vs) [] = omega arith
 count-pick p t (v ∷ vs) (x ∷ xs) = rw (count-onto t (p v) x (pick p vs xs)) (bump-and-le (p v) (eqs t x) _ _ (count-pick p t vs xs))
+
+-- of the verdicts themselves those that pass the test have what they have by passing it
+pub each-picked : {q : ℕ → Type 0} (p : ℕ → Bool) {vs : List ℕ} → Each (λ v. p v ≡ true → q v) vs → Each q (pick p vs vs)
+unfolding pick
+each-picked p none = none
+each-picked p (more h hs) = each-onto _ _ _ h (each-picked p hs)

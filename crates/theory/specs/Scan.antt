@@ -45,6 +45,12 @@ module _ (f : List (List ℕ) → List ℕ → ℕ) where
       let t : List (List ℕ) = takenNext (f taken x) x taken in
       rw (← taken-next (f taken x) x taken (pick good (scan f t ls) ls)) (ap (λ (vs : List ℕ). f taken x ∷ vs) (scan-next t ls l))
 
+  -- what every verdict has, each of those of the lines has
+  pub each-verdict : {q : ℕ → Type 0} → ((taken : List (List ℕ)) (l : List ℕ) → q (f taken l)) → (taken ls : List (List ℕ)) → Each q (scan f taken ls)
+  unfolding scan
+  each-verdict g taken [] = none
+  each-verdict g taken (l ∷ ls) = more (g taken l) (each-verdict g (takenNext (f taken l) l taken) ls)
+
   -- what follows from the verdict 0 is so of each that is taken
   pub each-scan : {q : List ℕ → Type 0} → ((taken : List (List ℕ)) (l : List ℕ) → f taken l ≡ 0 → q l)
       → (taken ls : List (List ℕ)) → Each q (pick good (scan f taken ls) ls)

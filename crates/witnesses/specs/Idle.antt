@@ -41,7 +41,8 @@ use Rattle.verdicts.specs.Verdict.{ownRules, verdictRules, verdict, verdictsOf,
 use Rattle.holdings.specs.Holdings.{storedOn, stored, storedAll, others, replacedAll, isFull, holdings}
 use Rattle.holdings.specs.Room.{usedAfter}
 use Rattle.stops.specs.Stops.{modeHolds, notFull, addressed, formStops, formStop}
-use Rattle.importer.specs.Import.{judged, following, confirmed, roomStops, stops, numberOf, unlessStopped, refusal, success, registerAfter, hgcAfter, answer as answered, written, told}
+use Rattle.theory.specs.Stopped.{unlessStopped}
+use Rattle.importer.specs.Import.{judged, following, confirmed, roomStops, stops, numberOf, refusal, success, registerAfter, hgcAfter, answer as answered, written, told}
 use Rattle.importer.specs.declared.Imported.{Imported}
 use Rattle.witnesses.specs.Files as files
 

@@ -1,0 +1,15 @@
+-- What the provider's functions answer: their number, and how many lines were taken and rejected. h is the HGV, g the HGC.
+-- Assumes nothing.
+use Prim.Native.Nat.{ℕ}
+use mathlib.Core.List.{List}
+use lib.ListN.{length}
+use Rattle.receipts.specs.Receipt.{answersIn, takenBy}
+use Rattle.provider.specs.declared.Counted.{Counted}
+
+-- a stop has zero counts
+unfoldable pub refusal : ℕ → Counted
+refusal number = record { number = number; taken = 0; rejected = 0 }
+
+-- success has 0 and the two counts
+unfoldable pub counted : List ℕ → List ℕ → Counted
+counted h g = record { number = 0; taken = length (takenBy h g); rejected = answersIn g }

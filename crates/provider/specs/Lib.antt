@@ -1,0 +1,4 @@
+pub mod Answer
+pub mod ReadBack
+pub mod Update
+pub mod Outcomes
