@@ -94,11 +94,7 @@ fn each_is_answer(hgc: &[u8]) -> bool
 fn has_names(hgv: &[u8], hgc: &[u8]) -> bool
     ensures { λ r. ⌜ r ≡ namesHold (now (hgv .entry)) (now (hgc .entry)) ⌝ }
 {
-    let sender = texts::field(
-        hgv,
-        header::columns::SENDER_FROM,
-        header::columns::SENDER_TO,
-    );
+    let sender = header::sender(hgv);
     let sequence = texts::field(
         hgv,
         header::columns::SEQUENCE_FROM,

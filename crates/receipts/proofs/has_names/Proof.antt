@@ -6,7 +6,7 @@ use Rattle.receipts.proofs.has_names.Tie as tie
 
 returns : tie.Need-returns
 unfolding namesHold
-returns c = rw (c .has-text2 .ensures, c .before .has-text .ensures, c .before .before .field2 .ensures, c .before .before .before .field .ensures)
+returns c = rw (c .has-text2 .ensures, c .before .has-text .ensures, c .before .before .field .ensures, c .before .before .before .sender .ensures)
 
 pub has-names-spec : {M : Type 1} → statement M
 has-names-spec =
