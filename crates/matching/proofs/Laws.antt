@@ -1,14 +1,13 @@
 -- What the functions of this crate cite. Assumes nothing.
-use mathlib.Core.Path.{_≡_, refl, sym, ap, _∙_}
-use mathlib.Core.Bool.{Bool, true, false, not, _&&_, _||_, true≢false}
-use mathlib.Core.List.{List, [], _∷_, _++_, map, map-append}
+use mathlib.Core.Path.{_≡_, refl, sym, _∙_}
+use mathlib.Core.Bool.{Bool, true, false, _&&_, true≢false}
+use mathlib.Core.List.{List, [], map, map-append}
 use Prim.Native.Nat.{ℕ, zero, suc, _+_, _*_, _-_, _≤_, _<_}
 use native.Mathlib.Omega.{arith}
 use lib.Dec.{eqb}
 use lib.ListN.{length, take, getD, set, length-map, List·getD-map}
 use lib.Seq.{take-at}
-use borrow.Author.Tests.{eq-eqb, ne-eqb}
-use Rattle.theory.specs.Truth.{and-none, and-both, and-assoc}
+use Rattle.theory.specs.Truth.{and-assoc}
 use Rattle.theory.specs.Same.{eqs, eqs-true, eq-eqs, mem}
 use Rattle.theory.specs.Count.{bump, bump-le}
 use Rattle.theory.specs.Parts.{chop, partAt, partsFrom, parts-start, parts-step, parts-end, length-chop}
@@ -31,7 +30,7 @@ use Rattle.hgc.specs.Confirmation.{answerLength}
 use Rattle.pairing.specs.Backwards.{isLast, lower, waiting, paired, pairsUp, length-paired}
 use Rattle.pairing.specs.Pairing.{firsts}
 use Rattle.pairing.specs.Turns.{Pairs, pairs-turn, lower-hit, lower-miss, last-some, FirstsFrom, firsts-on, firsts-off, firsts-end}
-use Rattle.receipts.specs.Receipt.{answersIn, behindHead, takenOf, rejectedOf, textsOf, copiesOf, marksOf, takenBy, countsHold, lineHolds, takenHold, linesHold}
+use Rattle.receipts.specs.Receipt.{answersIn, behindHead, takenOf, rejectedOf, textsOf, copiesOf, marksOf, takenBy, copiesHold, countsHold, lineHolds, takenHold, linesHold}
 use Rattle.receipts.specs.Laws.{answers-room, answers-are}
 use Rattle.matching.specs.Texts.{textsIn, holdsFor}
 use Rattle.matching.specs.Laws.{copies-pair, pair-marks, taken-count}
@@ -42,11 +41,11 @@ pub length-texts : (w n : ℕ) (b : List ℕ) → length (textsIn w n b) ≡ n
 unfolding textsIn
 length-texts w n b = length-map (chop w n b) text ∙ length-chop w n b
 
-pub text-at : (w n : ℕ) (b : List ℕ) (i : ℕ) → i < n → getD (textsIn w n b) i [] ≡ text (partAt w i b)
+text-at : (w n : ℕ) (b : List ℕ) (i : ℕ) → i < n → getD (textsIn w n b) i [] ≡ text (partAt w i b)
 unfolding textsIn field
 text-at w n b i h = List·getD-map text (chop w n b) i [] ∙ rw (getD-chop w n b i h)
 
-pub take-texts : (w n i : ℕ) (b : List ℕ) → i ≤ n → take i (textsIn w n b) ≡ textsIn w i b
+take-texts : (w n i : ℕ) (b : List ℕ) → i ≤ n → take i (textsIn w n b) ≡ textsIn w i b
 unfolding textsIn
 take-texts w n i b h =
     let l : length (map text (chop w i b)) ≡ i = length-map (chop w i b) text ∙ length-chop w i b in
@@ -150,7 +149,13 @@ pub named-is : (x : List ℕ) (ls : List (List ℕ)) (p : List ℕ) → p ≡ pa
 unfolding holdsPan
 named-is x ls p q r e = e ∙ some-key panOf p ls ∙ rw q
 
--- ---- all of it: `lines` and `answers` as they are handed over, with room for m marks
+-- ---- as many marks as lines
+
+length-marked : (h g ms : List ℕ) → ms ≡ paired (textsOf h) (copiesOf g) → length ms ≡ linesIn h
+unfolding textsOf
+length-marked h g ms e = rw e (length-paired (copiesOf g) (map text (linesOf h)) ∙ length-map (linesOf h) text ∙ length-lines h)
+
+-- ---- the copies are the lines left: `lines` and `answers` are handed over, with room for m marks
 
 module _ (h g lines answers : List ℕ) (m n : ℕ) (b : lines ≡ body h) (a : answers ≡ behindHead g) (k : n ≡ answersIn g) (sized : m ≡ linesIn h) where
   pub pair-room : (m * lineLength ≤ length lines) × (n * answerLength ≤ length answers)
@@ -170,51 +175,35 @@ module _ (h g lines answers : List ℕ) (m n : ℕ) (b : lines ≡ body h) (a : 
     pub marked : ms ≡ paired (textsOf h) (copiesOf g)
     marked = p .1 ∙ rw (texts-are, copies-are)
 
-    waits : w ≡ waiting (textsOf h) (copiesOf g)
-    waits = p .0 ∙ rw (texts-are, copies-are)
-
-    as-many : length ms ≡ linesIn h
-    unfolding textsOf
-    as-many = rw marked (length-paired (copiesOf g) (map text (linesOf h)) ∙ length-map (linesOf h) text ∙ length-lines h)
-
-    pub marks-room : length ms * lineLength ≤ length lines
-    marks-room = rw (b, as-many) (lines-room h)
-
-    firsts-are : firsts (textsIn lineLength (length ms) lines) ms ≡ firsts (textsOf h) (paired (textsOf h) (copiesOf g))
-    unfolding textsIn textsOf linesOf
-    firsts-are = rw (as-many, b, ← marked)
-
-    -- copies left over
-    pub left-over : (w ≡ 0 → ⊥) → false ≡ linesHold h g
-    unfolding linesHold pairsUp
-    left-over o = sym (rw (copies-pair h g, ← waits, ne-eqb w 0 o))
-
     -- r says whether the lines marked 0 are the first of their texts
-    module _ (r : Bool) (f : r ≡ firsts (textsIn lineLength (length ms) lines) ms) where
-      pub not-first : r ≡ false → false ≡ linesHold h g
-      unfolding linesHold pairsUp
-      not-first o =
-          let q : firsts (textsOf h) (paired (textsOf h) (copiesOf g)) ≡ false = sym firsts-are ∙ sym f ∙ o in
-          sym (rw (copies-pair h g, q, and-none (eqb (waiting (textsOf h) (copiesOf g)) 0) false refl))
+    pub are-copies : (r : Bool) → r ≡ firsts (textsIn lineLength (length ms) lines) ms → eqb w 0 && r ≡ copiesHold h g
+    unfolding pairsUp
+    are-copies r f =
+        let e : length ms ≡ m = length-marked h g ms marked ∙ sym sized in
+        rw (f, e, p .0, texts-are, copies-are, marked) (sym (copies-pair h g))
 
-      module _ (z : w ≡ 0) (o : r ≡ true) where
-        pairs : pairsUp (textsOf h) (copiesOf g) ≡ true
-        unfolding pairsUp
-        pairs = and-both _ _ (eq-eqb (waiting (textsOf h) (copiesOf g)) 0 (sym waits ∙ z)) (sym firsts-are ∙ sym f ∙ o)
+-- ---- and the lines taken hold: `lines` and `ms` are handed over
 
-        are-marks : ms ≡ marksOf h g
-        are-marks = marked ∙ pair-marks h g pairs
+module _ (h g lines ms : List ℕ) (b : lines ≡ body h) (e : ms ≡ paired (textsOf h) (copiesOf g)) where
+  pub marks-room : length ms * lineLength ≤ length lines
+  marks-room = rw (b, length-marked h g ms e) (lines-room h)
 
-        are-taken : pick good ms (chop lineLength (length ms) lines) ≡ takenBy h g
-        unfolding takenBy linesOf
-        are-taken = rw (as-many, b, are-marks)
+  module _ (p : copiesHold h g ≡ true) where
+    are-marks : ms ≡ marksOf h g
+    are-marks = e ∙ pair-marks h g (sym (copies-pair h g) ∙ p)
 
-        -- t counts the marks 0; u, d and q are what the last three tests said
-        pub all-hold : (t : ℕ) → t ≡ tally good ms → (u : Bool) → u ≡ eqb (number (takenOf g)) t && eqb (number (rejectedOf g)) n
-            → (d : Bool) → d ≡ distinct (map panOf (pick good ms (chop lineLength (length ms) lines)))
-            → (who : List ℕ) → who ≡ sender h → (q : Bool) → q ≡ each (holdsFor who) (pick good ms (chop lineLength (length ms) lines))
-            → u && d && q ≡ linesHold h g
-        unfolding linesHold countsHold takenHold lineHolds holdsFor
-        all-hold t et u eu d ed who ew q eq =
-            let c : t ≡ length (takenBy h g) = et ∙ rw are-marks (taken-count h g) in
-            and-assoc u d q ∙ rw (eu, ed, eq, are-taken, c, k, ew, copies-pair h g, pairs)
+    are-taken : pick good ms (chop lineLength (length ms) lines) ≡ takenBy h g
+    unfolding takenBy linesOf
+    are-taken = rw (length-marked h g ms e, b, are-marks)
+
+  -- c says whether the copies are the lines left, t counts the marks 0, and u, d and q are what the other tests said
+  pub all-hold : (c : Bool) → c ≡ copiesHold h g → (n : ℕ) → n ≡ answersIn g → (t : ℕ) → t ≡ tally good ms
+      → (u : Bool) → u ≡ eqb (number (takenOf g)) t && eqb (number (rejectedOf g)) n
+      → (d : Bool) → d ≡ distinct (map panOf (pick good ms (chop lineLength (length ms) lines)))
+      → (who : List ℕ) → who ≡ sender h → (q : Bool) → q ≡ each (holdsFor who) (pick good ms (chop lineLength (length ms) lines))
+      → c && u && d && q ≡ linesHold h g
+  unfolding linesHold countsHold takenHold lineHolds holdsFor
+  all-hold true ec n k t et u eu d ed who ew q eq =
+      let c : t ≡ length (takenBy h g) = et ∙ rw (are-marks (sym ec)) (taken-count h g) in
+      and-assoc u d q ∙ rw (eu, ed, eq, are-taken (sym ec), c, k, ew, ← ec)
+  all-hold false ec n k t et u eu d ed who ew q eq = rw (← ec)

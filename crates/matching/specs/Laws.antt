@@ -1,7 +1,7 @@
--- The HGC's lines beside the HGV's, as they are decided: by a pairing from the last to the first. What they hold says of the
--- lines that were taken. h is the HGV, g the HGC. Assumes nothing.
-use mathlib.Core.Path.{_≡_, refl, sym, ap, ap₂, _∙_}
-use mathlib.Core.Bool.{Bool, true, false, _&&_, false≢true}
+-- The HGC's lines beside the HGV's, decided by a pairing from the last to the first, and what is known of the lines taken
+-- where they hold. h is the HGV, g the HGC. Assumes nothing.
+use mathlib.Core.Path.{_≡_, refl, sym, ap₂, _∙_}
+use mathlib.Core.Bool.{true, _&&_, false≢true}
 use mathlib.Core.List.{List, [], _∷_, map}
 use Prim.Native.Nat.{ℕ}
 use lib.Dec.{eqb}

@@ -17,10 +17,10 @@ ghost use Rattle.hgv.specs.Layout.{lineLength, linesIn};
 ghost use Rattle.hgc.specs.Confirmation.{answerLength};
 ghost use Rattle.pairing.specs.Pairing.{firsts};
 ghost use Rattle.pairing.specs.Backwards.{isLast, waiting, paired};
-ghost use Rattle.receipts.specs.Receipt.{takenOf, rejectedOf, textsOf, copiesOf, linesHold};
+ghost use Rattle.receipts.specs.Receipt.{takenOf, rejectedOf, textsOf, copiesOf, copiesHold, linesHold};
 ghost use Rattle.matching.specs.Texts.{textsIn, holdsFor};
 
-// Two lines of either file. Nearly all lines differ in the PAN, and few bytes behind it tell them apart.
+// Have two lines, of either file, one text. Nearly all lines differ in the PAN, and few bytes behind it tell them apart.
 fn have_same_text(a: &[u8], b: &[u8]) -> bool
     ensures { λ r. ⌜ r ≡ eqs (text (now (a .entry))) (text (now (b .entry))) ⌝ }
 {
@@ -152,26 +152,26 @@ fn has_counts(hgc: &[u8], taken: u64, rejected: usize) -> bool
     (numbers::number(said_taken) == taken) & (numbers::number(said_rejected) == rejected as u64)
 }
 
-// Do the lines hold beside the HGV's. `marks` has 0 for each line of the HGV that was taken, where they do.
-pub fn lines_hold(hgv: &[u8], hgc: &[u8], marks: &mut [u8]) -> bool
+// Are the HGC's copies the lines left, in order. `marks` has 0 for each line that was taken, where they are.
+fn copies_hold(hgv: &[u8], hgc: &[u8], marks: &mut [u8]) -> bool
     requires { ⌜ length (now marks) ≡ linesIn (now hgv) ⌝ }
-    ensures { λ r. ⌜ (r ≡ linesHold (now (hgv .entry)) (now (hgc .entry))) × (now (marks .exit) ≡ paired (textsOf (now (hgv .entry))) (copiesOf (now (hgc .entry)))) ⌝ }
+    ensures { λ r. ⌜ (r ≡ copiesHold (now (hgv .entry)) (now (hgc .entry))) × (now (marks .exit) ≡ paired (textsOf (now (hgv .entry))) (copiesOf (now (hgc .entry)))) ⌝ }
 {
     let lines = hgv::body(hgv);
     let n = receipts::answers_in(hgc);
     let waiting = pair(lines, receipts::answers(hgc), n, marks);
-    if waiting != 0 {
-        return false;
-    }
-    if !are_firsts(lines, marks) {
-        return false;
-    }
-    let sender = texts::field(
-        hgv,
-        header::columns::SENDER_FROM,
-        header::columns::SENDER_TO,
-    );
-    has_counts(hgc, verdicts::count_taken(marks), n)
+    (waiting == 0) & are_firsts(lines, marks)
+}
+
+// Do the HGC's lines hold beside the HGV's. `marks` has 0 for each line that was taken, where they do.
+pub fn lines_hold(hgv: &[u8], hgc: &[u8], marks: &mut [u8]) -> bool
+    requires { ⌜ length (now marks) ≡ linesIn (now hgv) ⌝ }
+    ensures { λ r. ⌜ (r ≡ linesHold (now (hgv .entry)) (now (hgc .entry))) × (now (marks .exit) ≡ paired (textsOf (now (hgv .entry))) (copiesOf (now (hgc .entry)))) ⌝ }
+{
+    let copied = copies_hold(hgv, hgc, marks);
+    let lines = hgv::body(hgv);
+    copied
+        & has_counts(hgc, verdicts::count_taken(marks), receipts::answers_in(hgc))
         & are_apart(lines, marks)
-        & each_holds(lines, marks, sender)
+        & each_holds(lines, marks, header::sender(hgv))
 }
