@@ -25,14 +25,13 @@ use Rattle.columns.specs.Columns.{text, panOf}
 use Rattle.register.specs.Search.{holdsPan}
 use Rattle.hgv.specs.Layout.{lineLength, linesIn, body, linesOf}
 use Rattle.hgv.specs.Laws.{lines-room, length-lines}
-use Rattle.header.specs.Header.{sender}
 use Rattle.hgc.specs.Confirmation.{answerLength}
 use Rattle.pairing.specs.Backwards.{isLast, lower, waiting, paired, pairsUp, length-paired}
 use Rattle.pairing.specs.Pairing.{firsts}
 use Rattle.pairing.specs.Turns.{Pairs, pairs-turn, lower-hit, lower-miss, last-some, FirstsFrom, firsts-on, firsts-off, firsts-end}
 use Rattle.receipts.specs.Receipt.{answersIn, behindHead, takenOf, rejectedOf, textsOf, copiesOf, marksOf, takenBy, copiesHold, countsHold, lineHolds, takenHold, linesHold}
 use Rattle.receipts.specs.Laws.{answers-room, answers-are}
-use Rattle.matching.specs.Texts.{textsIn, holdsFor}
+use Rattle.matching.specs.Texts.{textsIn}
 use Rattle.matching.specs.Laws.{copies-pair, pair-marks, taken-count}
 
 -- ---- texts by their places
@@ -200,10 +199,10 @@ module _ (h g lines ms : List ℕ) (b : lines ≡ body h) (e : ms ≡ paired (te
   pub all-hold : (c : Bool) → c ≡ copiesHold h g → (n : ℕ) → n ≡ answersIn g → (t : ℕ) → t ≡ tally good ms
       → (u : Bool) → u ≡ eqb (number (takenOf g)) t && eqb (number (rejectedOf g)) n
       → (d : Bool) → d ≡ distinct (map panOf (pick good ms (chop lineLength (length ms) lines)))
-      → (who : List ℕ) → who ≡ sender h → (q : Bool) → q ≡ each (holdsFor who) (pick good ms (chop lineLength (length ms) lines))
+      → (q : Bool) → q ≡ each (lineHolds h) (pick good ms (chop lineLength (length ms) lines))
       → c && u && d && q ≡ linesHold h g
-  unfolding linesHold countsHold takenHold lineHolds holdsFor
-  all-hold true ec n k t et u eu d ed who ew q eq =
+  unfolding linesHold countsHold takenHold
+  all-hold true ec n k t et u eu d ed q eq =
       let c : t ≡ length (takenBy h g) = et ∙ rw (are-marks (sym ec)) (taken-count h g) in
-      and-assoc u d q ∙ rw (eu, ed, eq, are-taken (sym ec), c, k, ew, ← ec)
-  all-hold false ec n k t et u eu d ed who ew q eq = rw (← ec)
+      and-assoc u d q ∙ rw (eu, ed, eq, are-taken (sym ec), c, k, ← ec)
+  all-hold false ec n k t et u eu d ed q eq = rw (← ec)

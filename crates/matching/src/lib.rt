@@ -17,8 +17,8 @@ ghost use Rattle.hgv.specs.Layout.{lineLength, linesIn};
 ghost use Rattle.hgc.specs.Confirmation.{answerLength};
 ghost use Rattle.pairing.specs.Pairing.{firsts};
 ghost use Rattle.pairing.specs.Backwards.{isLast, waiting, paired};
-ghost use Rattle.receipts.specs.Receipt.{takenOf, rejectedOf, textsOf, copiesOf, copiesHold, linesHold};
-ghost use Rattle.matching.specs.Texts.{textsIn, holdsFor};
+ghost use Rattle.receipts.specs.Receipt.{takenOf, rejectedOf, textsOf, copiesOf, copiesHold, lineHolds, linesHold};
+ghost use Rattle.matching.specs.Texts.{textsIn};
 
 // Have two lines, of either file, one text. Nearly all lines differ in the PAN, and few bytes behind it tell them apart.
 fn have_same_text(a: &[u8], b: &[u8]) -> bool
@@ -120,21 +120,22 @@ fn are_apart(lines: &[u8], marks: &[u8]) -> bool
     true
 }
 
-// Has a line this actor, and keeps it L1, L5 to L10.
-fn holds_for(l: &[u8], sender: &[u8]) -> bool
-    ensures { λ r. ⌜ r ≡ holdsFor (now (sender .entry)) (now (l .entry)) ⌝ }
+// Has a line the sender for its actor, and keeps it L1, L5 to L10.
+fn line_holds(hgv: &[u8], l: &[u8]) -> bool
+    ensures { λ r. ⌜ r ≡ lineHolds (now (hgv .entry)) (now (l .entry)) ⌝ }
 {
+    let sender = header::sender(hgv);
     texts::has_text(l, columns::ACTOR_FROM, columns::ACTOR_TO, sender) & lines::is_record(l)
 }
 
-// Does each line marked 0 hold for the sender.
-fn each_holds(lines: &[u8], marks: &[u8], sender: &[u8]) -> bool
+// Does each line marked 0 hold.
+fn each_holds(hgv: &[u8], lines: &[u8], marks: &[u8]) -> bool
     requires { ⌜ length (now marks) * lineLength ≤ length (now lines) ⌝ }
-    ensures { λ r. ⌜ r ≡ each (holdsFor (now (sender .entry))) (pick good (now (marks .entry)) (chop lineLength (length (now (marks .entry))) (now (lines .entry)))) ⌝ }
+    ensures { λ r. ⌜ r ≡ each (lineHolds (now (hgv .entry))) (pick good (now (marks .entry)) (chop lineLength (length (now (marks .entry))) (now (lines .entry)))) ⌝ }
 {
     let mut i: usize = 0;
     while i < marks.len() {
-        let holds = holds_for(texts::part(lines, hgv::LINE, i), sender);
+        let holds = line_holds(hgv, texts::part(lines, hgv::LINE, i));
         if (marks[i] == 0) & !holds {
             return false;
         }
@@ -173,5 +174,5 @@ pub fn lines_hold(hgv: &[u8], hgc: &[u8], marks: &mut [u8]) -> bool
     copied
         & has_counts(hgc, verdicts::count_taken(marks), receipts::answers_in(hgc))
         & are_apart(lines, marks)
-        & each_holds(lines, marks, header::sender(hgv))
+        & each_holds(hgv, lines, marks)
 }
