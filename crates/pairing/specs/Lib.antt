@@ -4,3 +4,4 @@ pub mod Firsts
 pub mod Faithful
 pub mod Backwards
 pub mod Turns
+pub mod Telling
