@@ -5,3 +5,4 @@ pub mod Faithful
 pub mod Backwards
 pub mod Turns
 pub mod Telling
+pub mod Apart
