@@ -1,3 +1,5 @@
 pub mod Reasons
 pub mod ReadBack
 pub mod Read
+pub mod Own
+pub mod Mirror

@@ -43,6 +43,7 @@ use Rattle.pairing.specs.Faithful.{Judges, lines-first}
 use Rattle.receipts.specs.Receipt.{
   answersIn,
   answersOf,
+  receptionOf,
   takenOf,
   rejectedOf,
   reasonOf,
@@ -117,6 +118,11 @@ module _ (mode : ℕ) (reception register rows h hgc : List ℕ) (e : numberOf m
   one-text : length vs ≡ length (textsOf h)
   unfolding textsOf
   one-text = one-each ∙ sym (length-map (linesOf h) text ∙ length-lines h)
+
+  -- the reception that the HGC names is the import's
+  pub reception-read : receptionOf g ≡ reception
+  unfolding confirmed
+  reception-read = reception-is reception h vs dated (c .sized) one-each
 
   -- ---- which lines were taken
 
@@ -224,7 +230,7 @@ module _ (mode : ℕ) (reception register rows h hgc : List ℕ) (e : numberOf m
       rw (
         form-holds reception h vs dated (c .sized) one-each,
         names-hold reception h vs dated (c .sized) one-each,
-        reception-is reception h vs dated (c .sized) one-each,
+        reception-read,
         c .received,
         outcome-holds reception h vs dated (c .sized) one-each,
         reasons-hold,
