@@ -3,3 +3,6 @@ pub mod ReadBack
 pub mod Read
 pub mod Own
 pub mod Mirror
+pub mod History
+pub mod Kept
+pub mod Sequence
