@@ -10,6 +10,12 @@ ghost use Rattle.times.specs.Time.{realTime};
 ghost use Rattle.sequences.specs.Sequence.{sequence};
 ghost use Rattle.header.specs.Header.{sender, listSequence, creation, previousHolds, headerHolds};
 
+pub fn sender<'a>(h: &'a [u8]) -> &'a [u8]
+    ensures { λ r. ⌜ now r ≡ sender (now (h .entry)) ⌝ }
+{
+    texts::field(h, columns::SENDER_FROM, columns::SENDER_TO)
+}
+
 fn has_digits(s: &[u8], from: usize, to: usize, n: usize) -> bool
     requires { ⌜ (1 ≤ from) × (from ≤ to) ⌝ }
     ensures { λ r. ⌜ r ≡ run digit n (field from to (now (s .entry))) ⌝ }
@@ -29,7 +35,7 @@ fn has_sequence(h: &[u8]) -> bool
 {
     sequences::is_sequence(
         texts::field(h, columns::SEQUENCE_FROM, columns::SEQUENCE_TO),
-        texts::field(h, columns::SENDER_FROM, columns::SENDER_TO),
+        sender(h),
     )
 }
 
@@ -37,7 +43,7 @@ fn has_previous(h: &[u8]) -> bool
     ensures { λ r. ⌜ r ≡ previousHolds (now (h .entry)) ⌝ }
 {
     let f = texts::field(h, columns::PREVIOUS_FROM, columns::PREVIOUS_TO);
-    let from = texts::field(h, columns::SENDER_FROM, columns::SENDER_TO);
+    let from = sender(h);
     sequences::is_sequence(f, from) | texts::same(f, b"HGV0000000000000000")
 }
 

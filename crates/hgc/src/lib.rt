@@ -46,11 +46,7 @@ fn put_names(hgc: &mut [u8], reception: &[u8], hgv: &[u8])
     requires { ⌜ (46 ≤ length (now hgc)) × ((length (now reception) ≡ 14) × (128 ≤ length (now hgv))) ⌝ }
     ensures { λ _. ⌜ now (hgc .exit) ≡ putField 1 (names (now (reception .entry)) (now (hgv .entry))) (now (hgc .entry)) ⌝ }
 {
-    let sender = texts::field(
-        hgv,
-        header::columns::SENDER_FROM,
-        header::columns::SENDER_TO,
-    );
+    let sender = header::sender(hgv);
     let sequence = texts::field(
         hgv,
         header::columns::SEQUENCE_FROM,

@@ -4,7 +4,6 @@ ghost use lib.ListN.{length};
 ghost use Rattle.theory.specs.First.{first};
 ghost use Rattle.theory.specs.Pick.{bad};
 ghost use Rattle.theory.specs.Tally.{tally};
-ghost use Rattle.header.specs.Header.{sender};
 ghost use Rattle.stops.specs.Clear.{Clear};
 ghost use Rattle.hgv.specs.Layout.{linesIn};
 ghost use Rattle.importer.specs.Import.{judged, roomStops, refusal, success, written, told, answer, registerAfter, hgcAfter};
@@ -33,17 +32,6 @@ fn refused(number: u64) -> Imported
     }
 }
 
-// The sender of a file.
-fn sender<'a>(hgv: &'a [u8]) -> &'a [u8]
-    ensures { λ r. ⌜ now r ≡ sender (now (hgv .entry)) ⌝ }
-{
-    texts::field(
-        hgv,
-        header::columns::SENDER_FROM,
-        header::columns::SENDER_TO,
-    )
-}
-
 // Stops 33 and 34.
 fn room_stop(
     mode: u64,
@@ -58,7 +46,13 @@ fn room_stop(
     requires { ⌜ Clear mode (now reception) (now register) (now rows) (now hgv) × ((now verdicts ≡ judged (now register) (now rows) (now hgv)) × (rejected ≡ tally bad (now verdicts))) ⌝ }
     ensures { λ r. ⌜ r ≡ first (roomStops mode (now (reception .entry)) (now (register .entry)) (now (rows .entry)) (now (hgv .entry)) (now (hgc .entry))) ⌝ }
 {
-    let used = holdings::used_after(mode, register, sender(hgv), hgv::body(hgv), verdicts);
+    let used = holdings::used_after(
+        mode,
+        register,
+        header::sender(hgv),
+        hgv::body(hgv),
+        verdicts,
+    );
     let length = hgc::length_for(rejected as usize);
     let s34 = rules::first(hgc.len() < length, 34, 0);
     rules::first(register.len() / SLOT < used, 33, s34)
@@ -82,7 +76,7 @@ fn carry_out(
     applying::apply(
         mode,
         register,
-        sender(hgv),
+        header::sender(hgv),
         reception,
         hgv::body(hgv),
         verdicts,

@@ -1,2 +1,4 @@
 pub mod Receipt
+pub mod Laws
 pub mod Written
+pub mod Outcomes

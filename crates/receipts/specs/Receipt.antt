@@ -20,7 +20,7 @@ use Rattle.columns.specs.Columns.{text, panOf}
 use Rattle.lines.specs.Rules.{recordHolds}
 use Rattle.register.specs.Search.{of}
 use Rattle.hgv.specs.Layout.{footerLength, linesOf}
-use Rattle.frames.specs.Frames.{footerForm}
+use Rattle.frames.specs.Frames.{footerHolds}
 use Rattle.header.specs.Header.{sender, listSequence}
 use Rattle.hgc.specs.Confirmation.{headLength, answerLength, outcome}
 use Rattle.pairing.specs.Pairing.{marks, left, told}
@@ -35,11 +35,12 @@ bareLength = headLength + footerLength
 unfoldable pub answersIn : List ℕ → ℕ
 answersIn g = (length g - bareLength) / answerLength
 
-unfoldable pub answersOf : List ℕ → List (List ℕ)
-answersOf g = chop answerLength (answersIn g) (drop headLength g)
+-- what stands behind the header: its lines, and the footer
+unfoldable pub behindHead : List ℕ → List ℕ
+behindHead g = drop headLength g
 
-unfoldable pub footOf : List ℕ → List ℕ
-footOf g = drop (length g - footerLength) g
+unfoldable pub answersOf : List ℕ → List (List ℕ)
+answersOf g = chop answerLength (answersIn g) (behindHead g)
 
 abbrev pub receptionOf : List ℕ → List ℕ
 receptionOf g = field 33 46 g
@@ -71,7 +72,7 @@ unfoldable pub answerForm : List ℕ → Bool
 answerForm a = eqs (field 1 1 a) (bytes "1") && eqs (field 130 130 a) lineEnd
 
 unfoldable pub formHolds : List ℕ → Bool
-formHolds g = lengthForm g && headForm g && each answerForm (answersOf g) && footerForm (footOf g)
+formHolds g = lengthForm g && headForm g && each answerForm (answersOf g) && footerHolds g
 
 -- the receiver is the HGV's sender, the list its list
 unfoldable pub namesHold : List ℕ → List ℕ → Bool

@@ -20,7 +20,8 @@ use Rattle.texts.specs.Field.{field}
 use Rattle.texts.specs.Laws.{field-before}
 use Rattle.numbers.specs.Number.{decimal}
 use Rattle.numbers.specs.Laws.{decimal-digits}
-use Rattle.hgv.specs.Layout.{lineLength, footerLength, linesIn, lengthHolds, linesOf}
+use Rattle.hgv.specs.Layout.{lineLength, footerLength, linesIn, lengthHolds, linesOf, footer}
+use Rattle.frames.specs.Frames.{footerHolds}
 use Rattle.hgv.specs.Laws.{length-lines, each-line, length-least}
 use Rattle.header.specs.Header.{sender, listSequence}
 use Rattle.hgc.specs.Confirmation.{headLength, answerLength, confirmationLength, zeros, outcome, head, answer, answers, foot, confirmation}
@@ -45,8 +46,8 @@ use Rattle.hgc.specs.Fields.{
 use Rattle.receipts.specs.Receipt.{
   bareLength,
   answersIn,
+  behindHead,
   answersOf,
-  footOf,
   receptionOf,
   takenOf,
   rejectedOf,
@@ -113,8 +114,8 @@ module _ (reception h vs : List ℕ) (dated : length reception ≡ 14) (sized : 
   answers-in = omega (arith, size)
 
   -- behind the header its lines, and then the footer
-  behind-top : drop headLength g ≡ flat rows ++ foot
-  unfolding confirmation
+  behind-top : behindHead g ≡ flat rows ++ foot
+  unfolding behindHead confirmation
   behind-top = rw (append-assoc top (flat rows) foot) (drop-at top (flat rows ++ foot) headLength size-top)
 
   -- and they are the answers
@@ -126,8 +127,8 @@ module _ (reception h vs : List ℕ) (dated : length reception ≡ 14) (sized : 
       ∙ rw (take-at (flat rows) foot (tally bad vs * answerLength) size-rows, ← rows-counted) (chop-flat answerLength (each-answer vs (each-line h))))
 
   -- its last 64 bytes are the footer
-  pub foot-of : footOf g ≡ foot
-  unfolding footOf confirmation
+  pub foot-of : footer g ≡ foot
+  unfolding footer confirmation
   foot-of =
       drop-at (top ++ flat rows) foot (length g - footerLength) (simp length-append (omega (arith, size-top, length-foot)))
 
@@ -174,7 +175,7 @@ module _ (reception h vs : List ℕ) (dated : length reception ≡ 14) (sized : 
 
   -- so the form is right
   pub form-holds : formHolds g ≡ true
-  unfolding formHolds
+  unfolding formHolds footerHolds
   form-holds = rw (length-form, head-form, answer-forms, foot-of, foot-form)
 
   -- ---- its names, its outcome, its reception and its copies

@@ -1,1 +1,127 @@
-// The HGC beside its HGV, as a provider reads it.
+// The HGC as a provider reads it: its layout, and what it says by itself and of its HGV (the first half of 52). Every public
+// function takes texts of any length.
+use hgc::places;
+ghost use mathlib.Core.Path.{_≡_};
+ghost use mathlib.Core.Bool.{_&&_};
+ghost use Rattle.theory.specs.Walk.{each};
+ghost use Rattle.receipts.specs.Receipt.{answersIn, behindHead, answersOf, receptionOf, lengthForm, headForm, answerForm, namesHold, outcomeHolds, reasonHolds, saysHold};
+
+const HEADER: usize = 110;
+
+pub const LINE: usize = 130;
+
+// Header and footer.
+const BARE: usize = HEADER + hgv::FOOTER;
+
+// How many lines it has.
+pub fn answers_in(hgc: &[u8]) -> usize
+    ensures { λ r. ⌜ r ≡ answersIn (now (hgc .entry)) ⌝ }
+{
+    if hgc.len() < BARE {
+        return 0;
+    }
+    (hgc.len() - BARE) / LINE
+}
+
+// Its lines, and what stands behind them.
+pub fn answers<'a>(hgc: &'a [u8]) -> &'a [u8]
+    ensures { λ r. ⌜ now r ≡ behindHead (now (hgc .entry)) ⌝ }
+{
+    if hgc.len() < HEADER {
+        return &hgc[0..0];
+    }
+    &hgc[HEADER..]
+}
+
+pub fn reception<'a>(hgc: &'a [u8]) -> &'a [u8]
+    ensures { λ r. ⌜ now r ≡ receptionOf (now (hgc .entry)) ⌝ }
+{
+    texts::field(hgc, places::RECEPTION_FROM, places::RECEPTION_TO)
+}
+
+fn has_length(hgc: &[u8]) -> bool
+    ensures { λ r. ⌜ r ≡ lengthForm (now (hgc .entry)) ⌝ }
+{
+    if hgc.len() < BARE {
+        return false;
+    }
+    (hgc.len() - BARE) % LINE == 0
+}
+
+fn has_head(hgc: &[u8]) -> bool
+    ensures { λ r. ⌜ r ≡ headForm (now (hgc .entry)) ⌝ }
+{
+    texts::has_text(hgc, places::HEADER_TYPE, places::HEADER_TYPE, b"0")
+        & texts::has_text(hgc, places::SENDER_FROM, places::SENDER_TO, b"000002")
+        & fields::is_digits(texts::field(hgc, places::TAKEN_FROM, places::TAKEN_TO), 15)
+        & fields::is_digits(
+            texts::field(hgc, places::REJECTED_FROM, places::REJECTED_TO),
+            15,
+        )
+        & texts::has_text(hgc, places::VERSION_FROM, places::VERSION_TO, b"120001")
+        & fields::is_zeros(
+            texts::field(hgc, places::FILLER_FROM, places::FILLER_TO),
+            25,
+        )
+        & texts::has_text(hgc, places::HEADER_END, places::HEADER_END, b"\n")
+}
+
+// Has a line its two ends, and a reason that an HGC may name.
+fn is_answer(a: &[u8]) -> bool
+    ensures { λ r. ⌜ r ≡ (answerForm (now (a .entry)) && reasonHolds (now (a .entry))) ⌝ }
+{
+    let reason = texts::field(a, places::REASON_FROM, places::REASON_TO);
+    texts::has_text(a, places::LINE_TYPE, places::LINE_TYPE, b"1")
+        & texts::has_text(a, places::LINE_END, places::LINE_END, b"\n")
+        & texts::listed(reason, 2, b"010203040506080912")
+}
+
+fn each_is_answer(hgc: &[u8]) -> bool
+    ensures { λ r. ⌜ r ≡ each (λ a. answerForm a && reasonHolds a) (answersOf (now (hgc .entry))) ⌝ }
+{
+    let lines = answers(hgc);
+    let n = answers_in(hgc);
+    let mut i: usize = 0;
+    while i < n {
+        if !is_answer(texts::part(lines, LINE, i)) {
+            return false;
+        }
+        i += 1;
+    }
+    true
+}
+
+fn has_names(hgv: &[u8], hgc: &[u8]) -> bool
+    ensures { λ r. ⌜ r ≡ namesHold (now (hgv .entry)) (now (hgc .entry)) ⌝ }
+{
+    let sender = header::sender(hgv);
+    let sequence = texts::field(
+        hgv,
+        header::columns::SEQUENCE_FROM,
+        header::columns::SEQUENCE_TO,
+    );
+    texts::has_text(hgc, places::RECEIVER_FROM, places::RECEIVER_TO, sender)
+        & texts::has_text(hgc, places::SEQUENCE_FROM, places::SEQUENCE_TO, sequence)
+}
+
+fn has_outcome(hgc: &[u8]) -> bool
+    ensures { λ r. ⌜ r ≡ outcomeHolds (now (hgc .entry)) ⌝ }
+{
+    if answers_in(hgc) == 0 {
+        return texts::has_text(hgc, places::OUTCOME_FROM, places::OUTCOME_TO, b"00");
+    }
+    texts::has_text(hgc, places::OUTCOME_FROM, places::OUTCOME_TO, b"01")
+}
+
+// Does what it says by itself, and of the HGV, hold.
+pub fn says(hgv: &[u8], hgc: &[u8]) -> bool
+    ensures { λ r. ⌜ r ≡ saysHold (now (hgv .entry)) (now (hgc .entry)) ⌝ }
+{
+    has_length(hgc)
+        & has_head(hgc)
+        & each_is_answer(hgc)
+        & frames::has_footer(hgc)
+        & has_names(hgv, hgc)
+        & times::is_real_time(reception(hgc))
+        & has_outcome(hgc)
+}

@@ -6,13 +6,13 @@ const INCREMENTAL: u64 = 1;
 
 const FULL: u64 = 2;
 
-fn is_mode(mode: u64) -> bool
+pub fn is_mode(mode: u64) -> bool
     ensures { λ r. ⌜ r ≡ modeHolds mode ⌝ }
 {
     (mode == INCREMENTAL) | (mode == FULL)
 }
 
-fn is_not_full(mode: u64, hgv: &[u8]) -> bool
+pub fn is_not_full(mode: u64, hgv: &[u8]) -> bool
     ensures { λ r. ⌜ r ≡ notFull mode (now (hgv .entry)) ⌝ }
 {
     (mode == FULL) & claims::is_incremental_only(hgv)
@@ -21,11 +21,7 @@ fn is_not_full(mode: u64, hgv: &[u8]) -> bool
 fn is_addressed(rows: &[u8], hgv: &[u8]) -> bool
     ensures { λ r. ⌜ r ≡ addressed (now (rows .entry)) (now (hgv .entry)) ⌝ }
 {
-    let sender = texts::field(
-        hgv,
-        header::columns::SENDER_FROM,
-        header::columns::SENDER_TO,
-    );
+    let sender = header::sender(hgv);
     claims::has_receiver(hgv) & issuers::is_known(rows, sender)
 }
 

@@ -90,11 +90,7 @@ pub fn judge(hgv: &[u8], rows: &[u8], register: &[u8], verdicts: &mut [u8])
     ensures { λ _. ⌜ now (verdicts .exit) ≡ fileVerdicts (now (rows .entry)) (records (now (register .entry))) (now (hgv .entry)) ⌝ }
 {
     let lines = hgv::body(hgv);
-    let sender = texts::field(
-        hgv,
-        header::columns::SENDER_FROM,
-        header::columns::SENDER_TO,
-    );
+    let sender = header::sender(hgv);
     judge_lines(lines, sender, rows, register::used_part(register), verdicts);
 }
 

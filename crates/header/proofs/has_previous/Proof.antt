@@ -6,7 +6,7 @@ use Rattle.header.proofs.has_previous.Tie as tie
 
 returns : tie.Need-returns
 unfolding previousHolds
-returns c = rw (c .same .ensures, c .before .before .is-sequence .ensures, c .before .before .before .field2 .ensures, c .before .before .before .before .field .ensures)
+returns c = rw (c .same .ensures, c .before .before .is-sequence .ensures, c .before .before .before .sender .ensures, c .before .before .before .before .field .ensures)
 
 pub has-previous-spec : {M : Type 1} → statement M
 has-previous-spec =

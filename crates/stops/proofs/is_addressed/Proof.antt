@@ -6,7 +6,7 @@ use Rattle.stops.proofs.is_addressed.Tie as tie
 
 returns : tie.Need-returns
 unfolding addressed
-returns c = rw (c .is-known .ensures, c .before .has-receiver .ensures, c .before .before .field .ensures)
+returns c = rw (c .is-known .ensures, c .before .has-receiver .ensures, c .before .before .sender .ensures)
 
 pub is-addressed-spec : {M : Type 1} → statement M
 is-addressed-spec =

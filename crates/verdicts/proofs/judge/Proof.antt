@@ -18,7 +18,7 @@ unfolding fileVerdicts linesOf
 returns c =
     let x = c .before .before in
     x .judge-lines .ensures
-    ∙ rw (x .before .before .used-part .ensures, slots-used _, x .before .before .before .field .ensures, x .before .before .before .before .body .ensures, x .before .before .before .before .before .before .before .before .before .pre)
+    ∙ rw (x .before .before .used-part .ensures, slots-used _, x .before .before .before .sender .ensures, x .before .before .before .before .body .ensures, x .before .before .before .before .before .before .before .before .before .pre)
 
 pub judge-spec : {M : Type 1} → statement M
 judge-spec =

@@ -1,0 +1,93 @@
+-- What the functions of this crate cite. Assumes nothing.
+use mathlib.Core.Path.{_≡_, refl, sym, _∙_}
+use mathlib.Core.Bool.{Bool, true, false, _&&_}
+use mathlib.Core.List.{List, [], _∷_}
+use Prim.Native.Nat.{ℕ, zero, suc, _-_, _/_, _%_, _<_, _≤_}
+use native.Mathlib.Omega.{arith}
+use lib.Dec.{eqb, leb}
+use lib.ListN.{length, take, drop, length-drop, drop-of-length-le}
+use lib.Seq.{take-all}
+use borrow.Author.Tests.{le-leb, lt-leb}
+use Rattle.theory.specs.Truth.{and-true, and-none}
+use Rattle.theory.specs.Text.{bytes}
+use Rattle.theory.specs.Same.{eqs}
+use Rattle.theory.specs.Walk.{each}
+use Rattle.texts.specs.Field.{field}
+use Rattle.hgc.specs.Confirmation.{headLength, answerLength, outcome}
+use Rattle.times.specs.Time.{realTime}
+use Rattle.frames.specs.Frames.{footerHolds}
+use Rattle.receipts.specs.Receipt.{
+  bareLength,
+  answersIn,
+  behindHead,
+  answersOf,
+  receptionOf,
+  lengthForm,
+  headForm,
+  answerForm,
+  formHolds,
+  namesHold,
+  outcomeHolds,
+  reasonHolds,
+  saysHold,
+}
+
+module _ (g : List ℕ) where
+  -- the lines as the code lends them
+  pub lines-none : length g < headLength → take 0 (drop 0 g) ≡ behindHead g
+  unfolding behindHead
+  lines-none l = sym (drop-of-length-le g {i = headLength} (omega arith))
+
+  pub lines-lent : take (length g - headLength) (drop headLength g) ≡ behindHead g
+  unfolding behindHead
+  lines-lent = take-all (length g - headLength) (drop headLength g) (rw length-drop (omega arith))
+
+  -- a text too short for header and footer
+  pub answers-short : length g < bareLength → 0 ≡ answersIn g
+  unfolding answersIn
+  answers-short l = omega arith
+
+  pub length-short : length g < bareLength → false ≡ lengthForm g
+  unfolding lengthForm
+  length-short l = sym (rw (lt-leb bareLength (length g) (omega arith)))
+
+  pub length-long : bareLength ≤ length g → eqb ((length g - bareLength) % answerLength) 0 ≡ lengthForm g
+  unfolding lengthForm
+  length-long l = sym (rw (le-leb bareLength (length g) l))
+
+  -- `00` or `01`
+  pub outcome-none : (n : ℕ) → n ≡ answersIn g → n ≡ 0 → (r : Bool) → r ≡ eqs (field 108 109 g) (bytes "00") → r ≡ outcomeHolds g
+  unfolding outcomeHolds outcome
+  outcome-none n a e r q = q ∙ rw (← a, e)
+
+  pub outcome-some : (n : ℕ) → n ≡ answersIn g → (n ≡ 0 → ⊥) → (r : Bool) → r ≡ eqs (field 108 109 g) (bytes "01") → r ≡ outcomeHolds g
+  unfolding outcomeHolds outcome
+  outcome-some zero a z r q = absurd (z refl)
+  outcome-some (suc n) a z r q = q ∙ rw (← a)
+
+-- two tests at once
+pub each-two : (p q : List ℕ → Bool) (xs : List (List ℕ)) → each (λ x. p x && q x) xs ≡ (each p xs && each q xs)
+unfolding each
+each-two p q [] = refl
+each-two p q (x ∷ xs) = rw (each-two p q xs) (go (p x) (q x) (each p xs) (each q xs))
+  where
+    go : (a b c d : Bool) → (a && b) && (c && d) ≡ (a && c) && (b && d)
+    go true true c d = refl
+    go true false true d = refl
+    go true false false d = refl
+    go false b c d = refl
+
+-- what it says by itself, in the order of the definition
+order : (l h e r f n t o : Bool) → (((((l && h) && (e && r)) && f) && n) && t) && o ≡ ((((((l && h) && e) && f) && n) && t) && o) && r
+order false h e r f n t o = refl
+order true false e r f n t o = refl
+order true true false r f n t o = refl
+order true true true true f n t o = sym (and-true (((f && n) && t) && o))
+order true true true false f n t o = sym (and-none (((f && n) && t) && o) false refl)
+
+pub says-is : (h g : List ℕ) (l d e f n t o : Bool) → l ≡ lengthForm g → d ≡ headForm g → e ≡ each (λ a. answerForm a && reasonHolds a) (answersOf g) → f ≡ footerHolds g
+    → n ≡ namesHold h g → t ≡ realTime (receptionOf g) → o ≡ outcomeHolds g → (((((l && d) && e) && f) && n) && t) && o ≡ saysHold h g
+unfolding saysHold formHolds
+says-is h g l d e f n t o l′ d′ e′ f′ n′ t′ o′ =
+    rw (l′, d′, e′, each-two answerForm reasonHolds (answersOf g), f′, n′, t′, o′)
+    (order (lengthForm g) (headForm g) (each answerForm (answersOf g)) (each reasonHolds (answersOf g)) (footerHolds g) (namesHold h g) (realTime (receptionOf g)) (outcomeHolds g))
