@@ -29,14 +29,15 @@ stored-held x (r ∷ R) h = go (holdsPan (panOf x) r) h (stored-held x R)
     go : (b : Bool) → placeOn b (place (holdsPan (panOf x)) R) < suc (length R) → (place (holdsPan (panOf x)) R < length R → stored x R ≡ set R (place (holdsPan (panOf x)) R) x)
         → storedOn b x r R (stored x R) ≡ set (r ∷ R) (placeOn b (place (holdsPan (panOf x)) R)) x
     go true k ih = refl
-    go false k ih = rw (ih (omega arith))
+    go false k ih = ap (λ (S : List (List ℕ)). r ∷ S) (ih (omega arith))
 
 -- new: it comes behind
 pub stored-new : (x : List ℕ) (R : List (List ℕ)) → some (holdsPan (panOf x)) R ≡ false → stored x R ≡ R ++ x ∷ []
 unfolding stored storedOn some
 stored-new x [] h = refl
 stored-new x (r ∷ R) h =
-    rw (or-left (holdsPan (panOf x) r) (some (holdsPan (panOf x)) R) h, stored-new x R (or-right (holdsPan (panOf x) r) (some (holdsPan (panOf x)) R) h))
+    rw (or-left (holdsPan (panOf x) r) (some (holdsPan (panOf x)) R) h)
+    (ap (λ (S : List (List ℕ)). r ∷ S) (stored-new x R (or-right (holdsPan (panOf x) r) (some (holdsPan (panOf x)) R) h)))
 
 -- ---- their number
 
