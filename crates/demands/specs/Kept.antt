@@ -46,17 +46,19 @@ flat-free w (suc n) =
     let e : w + n * w ≡ suc n * w = omega arith in
     rw (flat-free w n) (replicate-append-replicate w (n * w) 0 ∙ rw e)
 
+-- and make the empty register
 empty-is : (n : ℕ) → flat (pad slotLength n []) ≡ empty n
 unfolding empty pad
 empty-is n = let e : n - 0 ≡ n = omega arith in rw e (flat-free slotLength n)
 
--- in order, and with no record
+-- which is in order, and has no record
 start-holds : (n : ℕ) → n ≤ slotsMost → Holds n [] (empty n)
 unfolding distinct
 start-holds n m =
     rw (← empty-is n)
     (record { order = order-pad n none (omega arith) none refl m; held = records-pad n none (omega arith) none; bytes = refl; many = slots-pad n none (omega arith) })
 
+-- so it mirrors itself
 pub start-kept : (who : List ℕ) (n : ℕ) → n ≤ slotsMost → Kept who n (empty n) (empty n) []
 unfolding own sift
 start-kept who n m =
@@ -75,6 +77,7 @@ number-answered mode reception register rows h hgc = go (numberOf mode reception
     go (suc n) = ap (λ (r : Imported). r .number) (at-stop (suc n) (success reception register rows h) (refusal (suc n)) (λ z. omega arith))
 
 module _ (mode : ℕ) (reception register rows h hgc : List ℕ) (n : ℕ) (copy : List ℕ) (us : List Update) where
+  -- what it answers, what it leaves, and the HGC that the provider gets
   abbrev number : ℕ
   number = numberOf mode reception register rows h hgc
 

@@ -34,15 +34,17 @@ abbrev pub Mirrors : List ℕ → List ℕ → List ℕ → Type 0
 Mirrors who register copy = Holds (slotsIn register) (own who (records register)) copy
 
 module _ (mode : ℕ) (reception register rows h hgc : List ℕ) (e : numberOf mode reception register rows h hgc ≡ 0) where
+  -- the register after it
   abbrev after : List ℕ
   after = registerAfter mode reception register rows h hgc
 
-  -- the register after it
+  -- is in order, and holds the records that follow
   pub after-holds : Holds (slotsIn register) (following mode reception register rows h) after
   after-holds = rw (← done-register mode reception register rows h hgc e) (holds-following mode reception register rows h hgc e)
 
-  -- ---- another's copy stays as it is
+  -- ---- another's copy
 
+  -- it mirrors the register as it did
   pub another-mirrors : (who copy : List ℕ) → eqs (sender h) who ≡ false → Mirrors who register copy → Mirrors who after copy
   another-mirrors who copy d m =
       rw (after-holds .many, after-holds .held, ← own-others who (sender h) (following mode reception register rows h) d, others-same mode reception register rows h hgc e, own-others who (sender h) (records register) d) m
@@ -50,12 +52,15 @@ module _ (mode : ℕ) (reception register rows h hgc : List ℕ) (e : numberOf m
   -- ---- his own is updated
 
   module _ (copy : List ℕ) (m : Mirrors (sender h) register copy) where
+    -- the HGC that he gets
     abbrev g : List ℕ
     g = sentBack mode reception register rows h hgc
 
+    -- no stop from 21 to 32 was given
     c : Clear mode reception register rows h
     c = accepted-clear mode reception register rows h hgc e
 
+    -- the taken lines
     abbrev ls : List (List ℕ)
     ls = taken (judged register rows h) h
 
@@ -99,6 +104,7 @@ module _ (mode : ℕ) (reception register rows h hgc : List ℕ) (e : numberOf m
 
     -- ---- the call
 
+    -- no stop is given
     pub update-number : updateNumber mode copy h g ≡ 0
     unfolding updateNumber copyStops roomStops first choose
     update-number =

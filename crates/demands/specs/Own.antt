@@ -6,7 +6,7 @@ use mathlib.Core.List.{List, [], _∷_, _++_, map}
 use Prim.Native.Nat.{ℕ}
 use native.Mathlib.Omega.{arith}
 use borrow.Author.Tests.{not-true}
-use Rattle.theory.specs.Truth.{and-none, or-left, or-right, or-both}
+use Rattle.theory.specs.Truth.{or-left, or-right}
 use Rattle.theory.specs.Same.{eqs, eqs-true, eqs-sym}
 use Rattle.theory.specs.Each.{Each, none, more, each-map}
 use Rattle.theory.specs.Walk.{some}
@@ -15,7 +15,7 @@ use Rattle.columns.specs.Columns.{actor, panOf}
 use Rattle.lines.specs.End.{recordOf}
 use Rattle.register.specs.Search.{holdsPan, of, holdsForeign, heldByAnother}
 use Rattle.holdings.specs.Holdings.{storedOn, stored, storedAll, others, replacedAll, isFull, holdings}
-use Rattle.holdings.specs.Storing.{free-stored}
+use Rattle.holdings.specs.Storing.{own-free, free-stored}
 use Rattle.applying.specs.Fit.{Fit}
 use Rattle.applying.specs.Others.{each-own, each-free}
 
@@ -41,6 +41,7 @@ module _ (who : List ℕ) where
       go false true e f k ih = rw (f, e, ih)
       go false false e f k ih = rw (f, ih)
 
+  -- all of them, one after the other
   own-all : (xs R : List (List ℕ)) → Each (λ x. of who x ≡ true) xs → Each (λ x. heldByAnother (panOf x) who R ≡ false) xs → own who (storedAll R xs) ≡ storedAll (own who R) xs
   unfolding storedAll
   own-all [] R none none = refl
@@ -58,15 +59,6 @@ module _ (who : List ℕ) where
   none-others : (R : List (List ℕ)) → others who (own who R) ≡ []
   unfolding own others
   none-others R = sift-apart (λ r. not (of who r)) (of who) (λ r e. ap not e) R
-
-  -- and no other holds a PAN there
-  own-free : (p : List ℕ) (R : List (List ℕ)) → heldByAnother p who (own who R) ≡ false
-  unfolding own heldByAnother some holdsForeign
-  own-free p R = go (sift-passes (of who) R)
-    where
-      go : {xs : List (List ℕ)} → Each (λ x. of who x ≡ true) xs → some (holdsForeign p who) xs ≡ false
-      go none = refl
-      go (more {x = x} h hs) = or-both _ _ (and-none (holdsPan p x) _ (ap not h)) (go hs)
 
 -- the lines fit, and are the sender's own
 module _ (mode : ℕ) (who reception : List ℕ) (slots : ℕ) (R ls : List (List ℕ)) (f : Fit mode who reception slots R ls) (his : Each (λ l. of who l ≡ true) ls) where
@@ -90,7 +82,7 @@ module _ (mode : ℕ) (who reception : List ℕ) (slots : ℕ) (R ls : List (Lis
         received = f .received;
         lined = f .lined;
         apart = f .apart;
-        free = each-map (λ l k. own-free who (panOf l) R) (f .free);
+        free = each-map (λ l k. own-free who (panOf l) (sift-passes (of who) R)) (f .free);
         room = rw (← own-holdings) (omega (arith, sift-length (of who) (holdings mode who reception R ls), f .room));
       }
 

@@ -41,6 +41,7 @@ unfolding addressed
 addressed-receiver rows h = and-left (receiverHolds h) _
 
 module _ (mode : ℕ) (reception register rows h hgc : List ℕ) (e : numberOf mode reception register rows h hgc ≡ 0) where
+  -- the HGC
   abbrev g : List ℕ
   g = sentBack mode reception register rows h hgc
 
@@ -71,33 +72,42 @@ module _ (mode : ℕ) (reception register rows h hgc : List ℕ) (e : numberOf m
         let c : Clear mode reception register rows h = accepted-clear mode reception register rows h hgc e in
         rw (c .sized, c .headed, c .versioned, addressed-receiver rows h (c .sent), c .counted, c .footed, c .framed)
 
-    -- a block under n bytes: 53, and nothing is written
+    -- ---- a block under n bytes
+
     module _ (s : length block < linesIn h) where
+      -- 53
       pub short-number : readNumber h g block ≡ 53
       unfolding blockStops first choose
       short-number = stops-but-53 ∙ rw (receipt-holds, lt-ltb (length block) (linesIn h) s)
 
+      -- so it stops
       stopped : readNumber h g block ≡ 0 → ⊥
       stopped z = omega (arith, short-number)
 
+      -- zero counts
       pub short-answer : readAnswer h g block ≡ refusal 53
       unfolding readAnswer
       short-answer = at-stop (readNumber h g block) _ _ stopped ∙ ap refusal short-number
 
+      -- and nothing is written
       pub short-block : verdictsAfter h g block ≡ block
       unfolding verdictsAfter
       short-block = at-stop (readNumber h g block) _ _ stopped
 
-    -- a block of n bytes or more
+    -- ---- a block of n bytes or more
+
     module _ (s : linesIn h ≤ length block) where
+      -- no stop is given
       pub read-number : readNumber h g block ≡ 0
       unfolding blockStops first choose
       read-number = stops-but-53 ∙ rw (receipt-holds, le-ltb (length block) (linesIn h) s)
 
+      -- 0, and the import's own counts
       pub read-answer : readAnswer h g block ≡ sameCounts mode reception register rows h hgc
       unfolding readAnswer
       read-answer = at-success (readNumber h g block) _ _ read-number ∙ counts-same
 
+      -- the import's verdicts, in file order; bytes behind the n-th stay
       pub read-verdicts : verdictsAfter h g block ≡ judged register rows h ++ drop (linesIn h) block
       unfolding verdictsAfter toldTo
       read-verdicts = at-success (readNumber h g block) _ _ read-number ∙ rw verdicts-same

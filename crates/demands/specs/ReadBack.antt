@@ -56,6 +56,7 @@ use Rattle.receipts.specs.Receipt.{
   saysHold,
   linesHold,
   receiptHolds,
+  reasonsOf,
   readVerdicts,
 }
 use Rattle.receipts.specs.Written.{
@@ -239,7 +240,7 @@ module _ (mode : ℕ) (reception register rows h hgc : List ℕ) (e : numberOf m
 
   -- the same lines, the same reasons
   pub read-back : readVerdicts h g ≡ vs
-  unfolding readVerdicts
+  unfolding readVerdicts reasonsOf
   read-back = rw (marks-are, reasons-are) (told-is vs)
 
   -- the HGC's buffer after the import, cut at the HGC's length

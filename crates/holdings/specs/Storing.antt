@@ -156,6 +156,12 @@ module _ (who : List ℕ) where
       ∙ rw (sift-none (λ r. not (of who r)) (each-map (λ x e. ap not e) o), append-nil (sift (λ r. not (of who r)) (sift (λ r. not (of who r)) R)))
       (sift-inside (λ r. not (of who r)) (λ r. not (of who r)) (λ x e. e) R)
 
+-- among records that are only this actor's no other actor holds a PAN
+pub own-free : (who pan : List ℕ) {R : List (List ℕ)} → Each (λ r. of who r ≡ true) R → heldByAnother pan who R ≡ false
+unfolding heldByAnother some holdsForeign
+own-free who pan none = refl
+own-free who pan (more {x = r} h hs) = or-both _ _ (and-none (holdsPan pan r) (not (of who r)) (ap not h)) (own-free who pan hs)
+
 -- a PAN that no other actor holds is new to the records of the others
 pub new-others : (who p : List ℕ) (R : List (List ℕ)) → heldByAnother p who R ≡ false → some (holdsPan p) (others who R) ≡ false
 unfolding others sift onto heldByAnother some holdsForeign

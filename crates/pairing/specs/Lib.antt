@@ -4,3 +4,5 @@ pub mod Firsts
 pub mod Faithful
 pub mod Backwards
 pub mod Turns
+pub mod Telling
+pub mod Apart

@@ -1,4 +1,6 @@
 pub mod Answer
 pub mod ReadBack
 pub mod Update
+pub mod Numbers
+pub mod Held
 pub mod Outcomes

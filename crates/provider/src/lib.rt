@@ -1,8 +1,131 @@
 // The provider's side: an HGC read back beside its HGV, and the update of his copy of the records held for him.
+use hgc::places;
+ghost use mathlib.Core.Path.{_≡_};
+ghost use mathlib.Core.Bool.{true};
+ghost use mathlib.Core.List.{_++_};
+ghost use Prim.Native.Nat.{_≤_, _<_};
+ghost use lib.ListN.{length, drop};
+ghost use Rattle.theory.specs.First.{first};
+ghost use Rattle.theory.specs.Count.{bump};
+ghost use Rattle.theory.specs.Walk.{each};
+ghost use Rattle.theory.specs.Pick.{bad};
+ghost use Rattle.theory.specs.Tally.{tally};
+ghost use Rattle.hgv.specs.Layout.{linesIn};
+ghost use Rattle.pairing.specs.Pairing.{told};
+ghost use Rattle.pairing.specs.Telling.{toldAt};
+ghost use Rattle.pairing.specs.Backwards.{paired};
+ghost use Rattle.receipts.specs.Receipt.{answersIn, answersOf, reasonHolds, textsOf, copiesOf, marksOf, receiptHolds, reasonsOf};
+ghost use Rattle.provider.specs.Answer.{refusal, counted};
+ghost use Rattle.provider.specs.ReadBack.{fileStops, readAnswer, verdictsAfter};
+ghost use Rattle.provider.specs.Update.{ownHolds, copyStops, updateAnswer, copyAfter};
+
+const SLOT: usize = 128;
+
+const LINES: usize = 8192;
 
 // 0 and the two counts, or the number of a stop and zeros.
 pub struct Counted {
     pub number: u64,
     pub taken: u64,
     pub rejected: u64,
+}
+
+fn refused(number: u64) -> Counted
+    ensures { λ r. ⌜ r ≡ refusal number ⌝ }
+{
+    Counted {
+        number,
+        taken: 0,
+        rejected: 0,
+    }
+}
+
+// The counts of an HGC that holds; `marks` says which lines were taken.
+fn count(hgv: &[u8], hgc: &[u8], marks: &[u8]) -> Counted
+    requires { ⌜ now marks ≡ marksOf (now hgv) (now hgc) ⌝ }
+    ensures { λ r. ⌜ r ≡ counted (now (hgv .entry)) (now (hgc .entry)) ⌝ }
+{
+    let taken = verdicts::count_taken(marks);
+    let rejected = receipts::answers_in(hgc) as u64;
+    Counted {
+        number: 0,
+        taken,
+        rejected,
+    }
+}
+
+// The stops that look at the HGV alone.
+fn file_stop(hgv: &[u8]) -> u64
+    ensures { λ r. ⌜ r ≡ first (fileStops (now (hgv .entry))) ⌝ }
+{
+    let s32 = rules::first(!frames::has_frames(hgv), 32, 0);
+    let s31 = rules::first(!frames::has_footer(hgv), 31, s32);
+    let s30 = rules::first(!claims::has_count(hgv), 30, s31);
+    let s29 = rules::first(!claims::has_receiver(hgv), 29, s30);
+    let s27 = rules::first(!claims::has_version(hgv), 27, s29);
+    let s26 = rules::first(!header::has_header(hgv), 26, s27);
+    rules::first(!hgv::has_length(hgv), 25, s26)
+}
+
+// 1 for a line that is left.
+fn left(mark: u8) -> usize
+    ensures { λ r. ⌜ (r ≡ bump (bad mark) 0) × (r ≤ 1) ⌝ }
+{
+    if mark == 0 {
+        return 0;
+    }
+    1
+}
+
+// The verdict of a line with this mark, in front of which k lines are left.
+fn verdict_at(hgc: &[u8], k: usize, mark: u8) -> u8
+    requires { ⌜ (each reasonHolds (answersOf (now hgc)) ≡ true) × ((mark ≡ 0 → ⊥) → k < answersIn (now hgc)) ⌝ }
+    ensures { λ r. ⌜ r ≡ toldAt mark (reasonsOf (now (hgc .entry))) k ⌝ }
+{
+    if mark == 0 {
+        return 0;
+    }
+    let a = texts::part(receipts::answers(hgc), receipts::LINE, k);
+    let reason = texts::field(a, places::REASON_FROM, places::REASON_TO);
+    numbers::number(reason) as u8
+}
+
+// A verdict for each line, in front of the block; what lies behind them stays as it was.
+fn tell(hgc: &[u8], marks: &[u8], verdicts: &mut [u8])
+    requires { ⌜ (length (now marks) ≤ length (now verdicts)) × ((each reasonHolds (answersOf (now hgc)) ≡ true) × (tally bad (now marks) ≤ answersIn (now hgc))) ⌝ }
+    ensures { λ _. ⌜ now (verdicts .exit) ≡ told (now (marks .entry)) (reasonsOf (now (hgc .entry))) ++ drop (length (now (marks .entry))) (now (verdicts .entry)) ⌝ }
+{
+    let mut k: usize = 0;
+    let mut i: usize = 0;
+    while i < marks.len() {
+        let v = verdict_at(hgc, k, marks[i]);
+        verdicts[i] = v;
+        k = k + left(marks[i]);
+        i += 1;
+    }
+}
+
+// Is every record in the copy the sender's.
+fn is_own(copy: &[u8], hgv: &[u8]) -> bool
+    ensures { λ r. ⌜ r ≡ ownHolds (now (copy .entry)) (now (hgv .entry)) ⌝ }
+{
+    let held = register::used_part(copy);
+    register::count_of(held, header::sender(hgv)) == held.len() / SLOT
+}
+
+// The stops that look at the mode, the copy and the HGV.
+fn copy_stop(mode: u64, copy: &[u8], hgv: &[u8]) -> u64
+    ensures { λ r. ⌜ r ≡ first (copyStops mode (now (copy .entry)) (now (hgv .entry))) ⌝ }
+{
+    let s32 = rules::first(!frames::has_frames(hgv), 32, 0);
+    let s31 = rules::first(!frames::has_footer(hgv), 31, s32);
+    let s30 = rules::first(!claims::has_count(hgv), 30, s31);
+    let s51 = rules::first(!is_own(copy, hgv), 51, s30);
+    let s29 = rules::first(!claims::has_receiver(hgv), 29, s51);
+    let s28 = rules::first(stops::is_not_full(mode, hgv), 28, s29);
+    let s27 = rules::first(!claims::has_version(hgv), 27, s28);
+    let s26 = rules::first(!header::has_header(hgv), 26, s27);
+    let s25 = rules::first(!hgv::has_length(hgv), 25, s26);
+    let s23 = rules::first(!register::in_order(copy), 23, s25);
+    rules::first(!stops::is_mode(mode), 21, s23)
 }

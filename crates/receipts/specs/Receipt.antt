@@ -138,6 +138,10 @@ receiptHolds h g = saysHold h g && linesHold h g
 
 -- ---- what is read
 
--- for each line 0 where it was taken, else its reason as a number
+-- the reasons as numbers
+unfoldable pub reasonsOf : List ℕ → List ℕ
+reasonsOf g = map (λ a. number (reasonOf a)) (answersOf g)
+
+-- for each line 0 where it was taken, else its reason
 unfoldable pub readVerdicts : List ℕ → List ℕ → List ℕ
-readVerdicts h g = told (marksOf h g) (map (λ a. number (reasonOf a)) (answersOf g))
+readVerdicts h g = told (marksOf h g) (reasonsOf g)

@@ -16,7 +16,7 @@ ghost use Rattle.verdicts.specs.Verdict.{ownRules, verdict, verdictsOf, 
 const LINE: usize = 128;
 
 // Has one of the taken lines among the first n this PAN.
-fn is_named(lines: &[u8], verdicts: &[u8], n: usize, pan: &[u8]) -> bool
+pub fn is_named(lines: &[u8], verdicts: &[u8], n: usize, pan: &[u8]) -> bool
     requires { ⌜ (n * 128 ≤ length (now lines)) × (n ≤ length (now verdicts)) ⌝ }
     ensures { λ r. ⌜ r ≡ some (holdsPan (now (pan .entry))) (pick good (now (verdicts .entry)) (chop 128 n (now (lines .entry)))) ⌝ }
 {

@@ -1,0 +1,177 @@
+// The lines of an HGV beside those of its HGC (the second half of 52): which were taken, and whether the HGC may say so.
+ghost use mathlib.Core.Path.{_≡_};
+ghost use mathlib.Core.Bool.{_&&_};
+ghost use mathlib.Core.List.{map};
+ghost use Prim.Native.Nat.{_*_, _≤_};
+ghost use lib.Dec.{eqb};
+ghost use lib.ListN.{length};
+ghost use Rattle.theory.specs.Same.{eqs, mem};
+ghost use Rattle.theory.specs.Count.{bump};
+ghost use Rattle.theory.specs.Parts.{chop};
+ghost use Rattle.theory.specs.Walk.{each};
+ghost use Rattle.theory.specs.Pick.{good, pick};
+ghost use Rattle.theory.specs.Distinct.{distinct};
+ghost use Rattle.numbers.specs.Number.{number};
+ghost use Rattle.columns.specs.Columns.{text, panOf};
+ghost use Rattle.hgv.specs.Layout.{lineLength, linesIn};
+ghost use Rattle.hgc.specs.Confirmation.{answerLength};
+ghost use Rattle.pairing.specs.Pairing.{firsts};
+ghost use Rattle.pairing.specs.Backwards.{isLast, waiting, paired};
+ghost use Rattle.receipts.specs.Receipt.{takenOf, rejectedOf, textsOf, copiesOf, linesHold};
+ghost use Rattle.matching.specs.Texts.{textsIn, holdsFor};
+
+// Two lines of either file. Nearly all lines differ in the PAN, and few bytes behind it tell them apart.
+fn have_same_text(a: &[u8], b: &[u8]) -> bool
+    ensures { λ r. ⌜ r ≡ eqs (text (now (a .entry))) (text (now (b .entry))) ⌝ }
+{
+    let pan = texts::field(b, columns::PAN_FROM, columns::PAN_TO);
+    if !texts::has_text(a, columns::PAN_FROM, columns::PAN_TO, pan) {
+        return false;
+    }
+    let text = texts::field(b, hgc::places::TEXT_FROM, hgc::places::TEXT_TO);
+    texts::has_text(a, hgc::places::TEXT_FROM, hgc::places::TEXT_TO, text)
+}
+
+// Has a line the text of the last of the first k copies.
+fn is_last(answers: &[u8], k: usize, l: &[u8]) -> bool
+    requires { ⌜ k * answerLength ≤ length (now answers) ⌝ }
+    ensures { λ r. ⌜ r ≡ isLast (textsIn answerLength k (now (answers .entry))) k (text (now (l .entry))) ⌝ }
+{
+    if k == 0 {
+        return false;
+    }
+    have_same_text(l, texts::part(answers, receipts::LINE, k - 1))
+}
+
+// 1 where that line is paired with that copy, else 0.
+fn mark(answers: &[u8], k: usize, l: &[u8]) -> u8
+    requires { ⌜ k * answerLength ≤ length (now answers) ⌝ }
+    ensures { λ r. ⌜ r ≡ bump (isLast (textsIn answerLength k (now (answers .entry))) k (text (now (l .entry)))) 0 ⌝ }
+{
+    if is_last(answers, k, l) {
+        return 1;
+    }
+    0
+}
+
+// From the last line to the first: a line that is the last copy not paired yet is paired with it, any other is not. How
+// many of the n copies wait at the end.
+fn pair(lines: &[u8], answers: &[u8], n: usize, marks: &mut [u8]) -> usize
+    requires { ⌜ (length (now marks) * lineLength ≤ length (now lines)) × (n * answerLength ≤ length (now answers)) ⌝ }
+    ensures { λ r. ⌜ (r ≡ waiting (textsIn lineLength (length (now (marks .entry))) (now (lines .entry))) (textsIn answerLength n (now (answers .entry)))) × (now (marks .exit) ≡ paired (textsIn lineLength (length (now (marks .entry))) (now (lines .entry))) (textsIn answerLength n (now (answers .entry)))) ⌝ }
+{
+    let mut k = n;
+    let mut i = marks.len();
+    while 0 < i {
+        i -= 1;
+        let m = mark(answers, k, texts::part(lines, hgv::LINE, i));
+        marks[i] = m;
+        k = k - m as usize;
+    }
+    k
+}
+
+// Has one of the first n lines the text of l.
+fn is_among(lines: &[u8], n: usize, l: &[u8]) -> bool
+    requires { ⌜ n * lineLength ≤ length (now lines) ⌝ }
+    ensures { λ r. ⌜ r ≡ mem (text (now (l .entry))) (textsIn lineLength n (now (lines .entry))) ⌝ }
+{
+    let mut i: usize = 0;
+    while i < n {
+        if have_same_text(l, texts::part(lines, hgv::LINE, i)) {
+            return true;
+        }
+        i += 1;
+    }
+    false
+}
+
+// Is each line marked 0 the first of its text.
+fn are_firsts(lines: &[u8], marks: &[u8]) -> bool
+    requires { ⌜ length (now marks) * lineLength ≤ length (now lines) ⌝ }
+    ensures { λ r. ⌜ r ≡ firsts (textsIn lineLength (length (now (marks .entry))) (now (lines .entry))) (now (marks .entry)) ⌝ }
+{
+    let mut i: usize = 0;
+    while i < marks.len() {
+        let again = is_among(lines, i, texts::part(lines, hgv::LINE, i));
+        if (marks[i] == 0) & again {
+            return false;
+        }
+        i += 1;
+    }
+    true
+}
+
+// Have no two lines marked 0 one PAN.
+fn are_apart(lines: &[u8], marks: &[u8]) -> bool
+    requires { ⌜ length (now marks) * lineLength ≤ length (now lines) ⌝ }
+    ensures { λ r. ⌜ r ≡ distinct (map panOf (pick good (now (marks .entry)) (chop lineLength (length (now (marks .entry))) (now (lines .entry))))) ⌝ }
+{
+    let mut i: usize = 0;
+    while i < marks.len() {
+        let l = texts::part(lines, hgv::LINE, i);
+        let pan = texts::field(l, columns::PAN_FROM, columns::PAN_TO);
+        let named = verdicts::is_named(lines, marks, i, pan);
+        if (marks[i] == 0) & named {
+            return false;
+        }
+        i += 1;
+    }
+    true
+}
+
+// Has a line this actor, and keeps it L1, L5 to L10.
+fn holds_for(l: &[u8], sender: &[u8]) -> bool
+    ensures { λ r. ⌜ r ≡ holdsFor (now (sender .entry)) (now (l .entry)) ⌝ }
+{
+    texts::has_text(l, columns::ACTOR_FROM, columns::ACTOR_TO, sender) & lines::is_record(l)
+}
+
+// Does each line marked 0 hold for the sender.
+fn each_holds(lines: &[u8], marks: &[u8], sender: &[u8]) -> bool
+    requires { ⌜ length (now marks) * lineLength ≤ length (now lines) ⌝ }
+    ensures { λ r. ⌜ r ≡ each (holdsFor (now (sender .entry))) (pick good (now (marks .entry)) (chop lineLength (length (now (marks .entry))) (now (lines .entry)))) ⌝ }
+{
+    let mut i: usize = 0;
+    while i < marks.len() {
+        let holds = holds_for(texts::part(lines, hgv::LINE, i), sender);
+        if (marks[i] == 0) & !holds {
+            return false;
+        }
+        i += 1;
+    }
+    true
+}
+
+// Are the counts in the header these.
+fn has_counts(hgc: &[u8], taken: u64, rejected: usize) -> bool
+    ensures { λ r. ⌜ r ≡ (eqb (number (takenOf (now (hgc .entry)))) taken && eqb (number (rejectedOf (now (hgc .entry)))) rejected) ⌝ }
+{
+    let said_taken = texts::field(hgc, hgc::places::TAKEN_FROM, hgc::places::TAKEN_TO);
+    let said_rejected = texts::field(hgc, hgc::places::REJECTED_FROM, hgc::places::REJECTED_TO);
+    (numbers::number(said_taken) == taken) & (numbers::number(said_rejected) == rejected as u64)
+}
+
+// Do the lines hold beside the HGV's. `marks` has 0 for each line of the HGV that was taken, where they do.
+pub fn lines_hold(hgv: &[u8], hgc: &[u8], marks: &mut [u8]) -> bool
+    requires { ⌜ length (now marks) ≡ linesIn (now hgv) ⌝ }
+    ensures { λ r. ⌜ (r ≡ linesHold (now (hgv .entry)) (now (hgc .entry))) × (now (marks .exit) ≡ paired (textsOf (now (hgv .entry))) (copiesOf (now (hgc .entry)))) ⌝ }
+{
+    let lines = hgv::body(hgv);
+    let n = receipts::answers_in(hgc);
+    let waiting = pair(lines, receipts::answers(hgc), n, marks);
+    if waiting != 0 {
+        return false;
+    }
+    if !are_firsts(lines, marks) {
+        return false;
+    }
+    let sender = texts::field(
+        hgv,
+        header::columns::SENDER_FROM,
+        header::columns::SENDER_TO,
+    );
+    has_counts(hgc, verdicts::count_taken(marks), n)
+        & are_apart(lines, marks)
+        & each_holds(lines, marks, sender)
+}

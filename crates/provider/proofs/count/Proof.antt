@@ -1,0 +1,13 @@
+-- Assumes nothing.
+use Rattle.provider.specs.Answer.{counted}
+use Rattle.provider.specs.Held.{taken-count}
+use borrow.Author.Needs.{needs}
+use Rattle.provider.proofs.count.Statement.{statement}
+use Rattle.provider.proofs.count.Tie as tie
+
+returns : tie.Need-returns
+unfolding counted
+returns c = rw (c .answers-in .ensures, c .before .count-taken .ensures, taken-count _ _ _ (c .before .before .before .before .before .pre))
+
+pub count-spec : {M : Type 1} → statement M
+count-spec = tie.close (tie.spec (λ c κs. search needs) (λ c κs. search needs) returns)
