@@ -46,11 +46,11 @@ module _ (mode : ℕ) (who reception : List ℕ) (slots : ℕ) (R ls : List (Lis
   abbrev xs : List (List ℕ)
   xs = map (recordOf reception) ls
 
-  each-own : Each (λ x. of who x ≡ true) xs
+  pub each-own : Each (λ x. of who x ≡ true) xs
   unfolding of
   each-own = each-record reception (λ l. of who l ≡ true) (λ l h e. rw (record-actor reception (f .received) l h) e) ls (f .lined) own
 
-  each-free : Each (λ x. heldByAnother (panOf x) who R ≡ false) xs
+  pub each-free : Each (λ x. heldByAnother (panOf x) who R ≡ false) xs
   each-free = each-record reception (λ l. heldByAnother (panOf l) who R ≡ false) (λ l h e. rw (record-pan reception (f .received) l h) e) ls (f .lined) (f .free)
 
   -- in either mode they are the same records, in the same order

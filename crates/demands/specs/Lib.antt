@@ -1,2 +1,8 @@
 pub mod Reasons
 pub mod ReadBack
+pub mod Read
+pub mod Own
+pub mod Mirror
+pub mod History
+pub mod Kept
+pub mod Sequence

@@ -8,7 +8,6 @@ use native.Mathlib.Omega.{arith}
 use lib.ListN.{length, take, drop, length-map}
 use lib.Seq.{take-append-seam}
 use borrow.Author.Tests.{eq-eqb}
-use Rattle.theory.specs.Truth.{and-both}
 use Rattle.theory.specs.First.{first}
 use Rattle.theory.specs.Each.{each-map, each-both, map-fixed}
 use Rattle.theory.specs.Walk.{each, each-passes, passes-each}
@@ -20,14 +19,13 @@ use Rattle.numbers.specs.Number.{number, decimal}
 use Rattle.numbers.specs.Laws.{number-2, number-15}
 use Rattle.times.specs.Moment.{real-length}
 use Rattle.columns.specs.Columns.{text, panOf}
-use Rattle.lines.specs.Rules.{recordHolds}
 use Rattle.hgv.specs.Layout.{lineLength, linesMost, linesIn, linesOf}
 use Rattle.hgv.specs.Laws.{length-lines, each-line, lines-most}
 use Rattle.frames.specs.Frames.{framed, framesHold}
 use Rattle.frames.specs.Laws.{framed-is}
 use Rattle.header.specs.Header.{sender}
 use Rattle.register.specs.Register.{records}
-use Rattle.register.specs.Search.{of, holdsPan}
+use Rattle.register.specs.Search.{holdsPan}
 use Rattle.verdicts.specs.Verdict.{ownRules, verdict, verdictsOf, fileVerdicts, taken}
 use Rattle.verdicts.specs.Laws.{verdict-is, verdict-most}
 use Rattle.hgc.specs.Confirmation.{answers}
@@ -43,6 +41,7 @@ use Rattle.pairing.specs.Faithful.{Judges, lines-first}
 use Rattle.receipts.specs.Receipt.{
   answersIn,
   answersOf,
+  receptionOf,
   takenOf,
   rejectedOf,
   reasonOf,
@@ -62,6 +61,7 @@ use Rattle.receipts.specs.Receipt.{
 }
 use Rattle.receipts.specs.Written.{
   same-texts,
+  line-holds,
   each-answered,
   answers-in,
   answers-of,
@@ -118,6 +118,11 @@ module _ (mode : ℕ) (reception register rows h hgc : List ℕ) (e : numberOf m
   one-text : length vs ≡ length (textsOf h)
   unfolding textsOf
   one-text = one-each ∙ sym (length-map (linesOf h) text ∙ length-lines h)
+
+  -- the reception that the HGC names is the import's
+  pub reception-read : receptionOf g ≡ reception
+  unfolding confirmed
+  reception-read = reception-is reception h vs dated (c .sized) one-each
 
   -- ---- which lines were taken
 
@@ -205,10 +210,9 @@ module _ (mode : ℕ) (reception register rows h hgc : List ℕ) (e : numberOf m
 
   -- each has the sender for its actor, and keeps the rules of a record
   taken-lines : each (lineHolds h) (taken vs h) ≡ true
-  unfolding lineHolds
   taken-lines =
       passes-each (lineHolds h)
-      (each-map (λ l k. and-both (of (sender h) l) (recordHolds l) (k .0) (k .1))
+      (each-map (λ l k. line-holds h l (k .0) (k .1))
       (each-both (lines-his mode reception register rows h c) (lines-hold mode reception register rows h c)))
 
   -- no two share a PAN, and each holds
@@ -225,7 +229,7 @@ module _ (mode : ℕ) (reception register rows h hgc : List ℕ) (e : numberOf m
       rw (
         form-holds reception h vs dated (c .sized) one-each,
         names-hold reception h vs dated (c .sized) one-each,
-        reception-is reception h vs dated (c .sized) one-each,
+        reception-read,
         c .received,
         outcome-holds reception h vs dated (c .sized) one-each,
         reasons-hold,

@@ -29,14 +29,15 @@ stored-held x (r ∷ R) h = go (holdsPan (panOf x) r) h (stored-held x R)
     go : (b : Bool) → placeOn b (place (holdsPan (panOf x)) R) < suc (length R) → (place (holdsPan (panOf x)) R < length R → stored x R ≡ set R (place (holdsPan (panOf x)) R) x)
         → storedOn b x r R (stored x R) ≡ set (r ∷ R) (placeOn b (place (holdsPan (panOf x)) R)) x
     go true k ih = refl
-    go false k ih = rw (ih (omega arith))
+    go false k ih = ap (λ (S : List (List ℕ)). r ∷ S) (ih (omega arith))
 
 -- new: it comes behind
 pub stored-new : (x : List ℕ) (R : List (List ℕ)) → some (holdsPan (panOf x)) R ≡ false → stored x R ≡ R ++ x ∷ []
 unfolding stored storedOn some
 stored-new x [] h = refl
 stored-new x (r ∷ R) h =
-    rw (or-left (holdsPan (panOf x) r) (some (holdsPan (panOf x)) R) h, stored-new x R (or-right (holdsPan (panOf x) r) (some (holdsPan (panOf x)) R) h))
+    rw (or-left (holdsPan (panOf x) r) (some (holdsPan (panOf x)) R) h)
+    (ap (λ (S : List (List ℕ)). r ∷ S) (stored-new x R (or-right (holdsPan (panOf x) r) (some (holdsPan (panOf x)) R) h)))
 
 -- ---- their number
 
@@ -154,6 +155,12 @@ module _ (who : List ℕ) where
       sift-append (λ r. not (of who r)) (others who R) xs
       ∙ rw (sift-none (λ r. not (of who r)) (each-map (λ x e. ap not e) o), append-nil (sift (λ r. not (of who r)) (sift (λ r. not (of who r)) R)))
       (sift-inside (λ r. not (of who r)) (λ r. not (of who r)) (λ x e. e) R)
+
+-- among records that are only this actor's no other actor holds a PAN
+pub own-free : (who pan : List ℕ) {R : List (List ℕ)} → Each (λ r. of who r ≡ true) R → heldByAnother pan who R ≡ false
+unfolding heldByAnother some holdsForeign
+own-free who pan none = refl
+own-free who pan (more {x = r} h hs) = or-both _ _ (and-none (holdsPan pan r) (not (of who r)) (ap not h)) (own-free who pan hs)
 
 -- a PAN that no other actor holds is new to the records of the others
 pub new-others : (who p : List ℕ) (R : List (List ℕ)) → heldByAnother p who R ≡ false → some (holdsPan p) (others who R) ≡ false

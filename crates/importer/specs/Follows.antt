@@ -36,7 +36,7 @@ module _ (mode : ℕ) (reception register rows h hgc : List ℕ) (e : numberOf m
   unfolding judged countHolds
   adds-up = taken-rejected rows (records register) h ∙ sym (eqb-true (number (count h)) (linesIn h) (c .counted))
 
-  fit : Fit mode (sender h) reception (slotsIn register) (records register) (taken (judged register rows h) h)
+  pub fit : Fit mode (sender h) reception (slotsIn register) (records register) (taken (judged register rows h) h)
   unfolding following
   fit =
       record {

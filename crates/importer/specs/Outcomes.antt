@@ -8,7 +8,7 @@ use Rattle.importer.specs.Import.{answer, registerAfter, hgcAfter}
 
 module _ (mode : ℕ) (reception register rows h hgc : List ℕ) where
   -- what the import's contract says of its result r, the register b and the buffer g after it
-  pub Outcome : Imported → List ℕ → List ℕ → Type 0
+  unfoldable pub Outcome : Imported → List ℕ → List ℕ → Type 0
   Outcome r b g =
       (r ≡ answer mode reception register rows h hgc)
       × ((b ≡ registerAfter mode reception register rows h hgc) × (g ≡ hgcAfter mode reception register rows h hgc))

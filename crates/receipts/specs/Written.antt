@@ -8,6 +8,7 @@ use native.Mathlib.Omega.{arith}
 use lib.ListN.{length, drop, length-append}
 use lib.Seq.{take-at, drop-at}
 use borrow.Author.Tests.{eq-eqb, le-leb}
+use Rattle.theory.specs.Truth.{and-both}
 use Rattle.theory.specs.Same.{eqs, eqs-refl}
 use Rattle.theory.specs.Every.{all, run}
 use Rattle.theory.specs.Each.{Each, none, more, each-from}
@@ -20,6 +21,8 @@ use Rattle.texts.specs.Field.{field}
 use Rattle.texts.specs.Laws.{field-before}
 use Rattle.numbers.specs.Number.{decimal}
 use Rattle.numbers.specs.Laws.{decimal-digits}
+use Rattle.lines.specs.Rules.{recordHolds}
+use Rattle.register.specs.Search.{of}
 use Rattle.hgv.specs.Layout.{lineLength, footerLength, linesIn, lengthHolds, linesOf, footer}
 use Rattle.frames.specs.Frames.{footerHolds}
 use Rattle.hgv.specs.Laws.{length-lines, each-line, length-least}
@@ -60,6 +63,7 @@ use Rattle.receipts.specs.Receipt.{
   textsOf,
   copiesOf,
   sameTexts,
+  lineHolds,
 }
 
 -- a list of texts is the same as itself
@@ -67,6 +71,11 @@ pub same-texts : (xs : List (List ℕ)) → sameTexts xs xs ≡ true
 unfolding sameTexts
 same-texts [] = refl
 same-texts (x ∷ xs) = rw (eqs-refl x) (same-texts xs)
+
+-- of a taken line no more is asked than this: its actor is the sender, and it keeps L1, L5 to L10
+pub line-holds : (h l : List ℕ) → of (sender h) l ≡ true → recordHolds l ≡ true → lineHolds h l ≡ true
+unfolding lineHolds
+line-holds h l = and-both (of (sender h) l) (recordHolds l)
 
 -- what every answer has whose verdict has p, each of a file's answers has
 pub each-answered : {p : ℕ → Type 0} {q : List ℕ → Type 0} → ((v : ℕ) (l : List ℕ) → p v → 127 ≤ length l → q (answer v l))
