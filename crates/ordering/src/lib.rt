@@ -1,0 +1,266 @@
+// Keys of the parts of a block: have no two parts one, and is each the first that has its own. The parts are sorted by
+// their keys, and the order is tested: in one that holds, equal keys are neighbours. Any other leads to the plain search.
+ghost use mathlib.Core.Path.{_≡_};
+ghost use mathlib.Core.Bool.{true, false};
+ghost use mathlib.Core.List.{map};
+ghost use Prim.Native.Nat.{_*_, _+_, _≤_, _<_};
+ghost use lib.ListN.{length, getD};
+ghost use Rattle.theory.specs.Parts.{chop};
+ghost use Rattle.theory.specs.Pick.{good, pick};
+ghost use Rattle.theory.specs.Distinct.{distinct};
+ghost use Rattle.texts.specs.Field.{field};
+ghost use Rattle.pairing.specs.Pairing.{firsts};
+ghost use Rattle.ordering.specs.Again.{counted, keyAt, seen, again, noneAgain};
+ghost use Rattle.ordering.specs.Order.{Less, Step, Rising, Covers};
+
+mod sorting;
+
+const MOST: usize = 8192;
+
+// What two parts are to each other, and all neighbours of an order.
+const RISING: u8 = 0;
+
+const SAME: u8 = 1;
+
+const LOST: u8 = 2;
+
+// Does a part with this mark count: every part does, or each that is marked 0.
+fn counts(mark: u8, all: bool) -> bool
+    ensures { λ r. ⌜ r ≡ counted all mark ⌝ }
+{
+    all | (mark == 0)
+}
+
+fn one(holds: bool) -> usize
+    ensures { λ r. ⌜ r ≤ 1 ⌝ }
+{
+    if holds { 1 } else { 0 }
+}
+
+fn key<'a>(b: &'a [u8], width: usize, from: usize, to: usize, i: usize) -> &'a [u8]
+    requires { ⌜ (i * width + width ≤ length (now b)) × (1 ≤ from) × (from ≤ to) ⌝ }
+    ensures { λ r. ⌜ now r ≡ keyAt (field from to) width (now (b .entry)) i ⌝ }
+{
+    texts::field(texts::part(b, width, i), from, to)
+}
+
+fn compare(s: &[u8], t: &[u8]) -> u8
+    ensures { λ r. ⌜ (r ≡ 0 → Less (now (s .entry)) (now (t .entry))) × (r ≡ 1 → now (s .entry) ≡ now (t .entry)) ⌝ }
+{
+    if s.len() != t.len() {
+        return LOST;
+    }
+    let mut i: usize = 0;
+    while i < s.len() {
+        if s[i] < t[i] {
+            return RISING;
+        }
+        if t[i] < s[i] {
+            return LOST;
+        }
+        i += 1;
+    }
+    SAME
+}
+
+// Of two parts with one key: is the first to be in front, and may it.
+fn stay(marks: &[u8], all: bool, a: usize, c: usize) -> u8
+    requires { ⌜ (a < length (now marks)) × (c < length (now marks)) ⌝ }
+    ensures { λ r. ⌜ (r ≡ 0 → (a < c) × (good (getD (now (marks .entry)) c 0) ≡ false)) × (r ≡ 1 → (a < c) × (good (getD (now (marks .entry)) c 0) ≡ true) × (counted all (getD (now (marks .entry)) a 0) ≡ true)) ⌝ }
+{
+    if c <= a {
+        return LOST;
+    }
+    if marks[c] != 0 {
+        return RISING;
+    }
+    if counts(marks[a], all) {
+        return SAME;
+    }
+    LOST
+}
+
+fn step(
+    b: &[u8],
+    width: usize,
+    from: usize,
+    to: usize,
+    marks: &[u8],
+    all: bool,
+    a: usize,
+    c: usize,
+) -> u8
+    requires { ⌜ (length (now marks) * width ≤ length (now b)) × (1 ≤ from) × (from ≤ to) × (a < length (now marks)) × (c < length (now marks)) ⌝ }
+    ensures { λ r. ⌜ (r ≡ 0 → Step (field from to) width (now (b .entry)) (now (marks .entry)) a c) × (r ≡ 1 → again (field from to) width (now (b .entry)) all (now (marks .entry)) c ≡ true) ⌝ }
+{
+    let keys = compare(key(b, width, from, to, a), key(b, width, from, to, c));
+    if keys != SAME {
+        return keys;
+    }
+    stay(marks, all, a, c)
+}
+
+// Does the order rise from each of its first m places to the next.
+fn rise(
+    b: &[u8],
+    width: usize,
+    from: usize,
+    to: usize,
+    marks: &[u8],
+    all: bool,
+    order: &[u16; 8192],
+    m: usize,
+) -> u8
+    requires { ⌜ (length (now marks) * width ≤ length (now b)) × (1 ≤ from) × (from ≤ to) × (m ≤ 8192) ⌝ }
+    ensures { λ r. ⌜ (r ≡ 0 → Rising (field from to) width (now (b .entry)) (now (marks .entry)) (now (order .entry)) m) × (r ≡ 1 → noneAgain (field from to) width (now (b .entry)) all (now (marks .entry)) (length (now (marks .entry))) ≡ false) ⌝ }
+{
+    let mut i: usize = 0;
+    while i + 1 < m {
+        let a = sorting::wide(order[i]);
+        let c = sorting::wide(order[i + 1]);
+        if marks.len() <= a {
+            return LOST;
+        }
+        if marks.len() <= c {
+            return LOST;
+        }
+        let found = step(b, width, from, to, marks, all, a, c);
+        if found != RISING {
+            return found;
+        }
+        i += 1;
+    }
+    RISING
+}
+
+// Stands a at this rank.
+fn is_at(order: &[u16; 8192], m: usize, rank: usize, a: usize) -> bool
+    requires { ⌜ m ≤ 8192 ⌝ }
+    ensures { λ r. ⌜ (r ≡ true → (rank < m) × (getD (now (order .entry)) rank 0 ≡ a)) ⌝ }
+{
+    if m <= rank {
+        return false;
+    }
+    sorting::wide(order[rank]) == a
+}
+
+// Stands each part that counts at its rank.
+fn covers(marks: &[u8], all: bool, order: &[u16; 8192], ranks: &[u16; 8192], m: usize) -> bool
+    requires { ⌜ (length (now marks) ≤ 8192) × (m ≤ 8192) ⌝ }
+    ensures { λ r. ⌜ (r ≡ true → Covers all (now (marks .entry)) (now (order .entry)) (now (ranks .entry)) m (length (now (marks .entry)))) ⌝ }
+{
+    let mut a: usize = 0;
+    while a < marks.len() {
+        let stands = is_at(order, m, sorting::wide(ranks[a]), a);
+        if counts(marks[a], all) & !stands {
+            return false;
+        }
+        a += 1;
+    }
+    true
+}
+
+// Has one of the first n parts that count the key t.
+fn is_seen(
+    b: &[u8],
+    width: usize,
+    from: usize,
+    to: usize,
+    marks: &[u8],
+    all: bool,
+    n: usize,
+    t: &[u8],
+) -> bool
+    requires { ⌜ (length (now marks) * width ≤ length (now b)) × (1 ≤ from) × (from ≤ to) × (n ≤ length (now marks)) ⌝ }
+    ensures { λ r. ⌜ r ≡ seen (field from to) width (now (b .entry)) all (now (marks .entry)) n (now (t .entry)) ⌝ }
+{
+    let mut i: usize = 0;
+    while i < n {
+        let same = texts::same(t, key(b, width, from, to, i));
+        if counts(marks[i], all) & same {
+            return true;
+        }
+        i += 1;
+    }
+    false
+}
+
+// Each part against all in front of it.
+fn search(b: &[u8], width: usize, from: usize, to: usize, marks: &[u8], all: bool) -> bool
+    requires { ⌜ (length (now marks) * width ≤ length (now b)) × (1 ≤ from) × (from ≤ to) ⌝ }
+    ensures { λ r. ⌜ r ≡ noneAgain (field from to) width (now (b .entry)) all (now (marks .entry)) (length (now (marks .entry))) ⌝ }
+{
+    let mut i: usize = 0;
+    while i < marks.len() {
+        let seen = is_seen(
+            b,
+            width,
+            from,
+            to,
+            marks,
+            all,
+            i,
+            key(b, width, from, to, i),
+        );
+        if (marks[i] == 0) & seen {
+            return false;
+        }
+        i += 1;
+    }
+    true
+}
+
+// By the order, where it is one.
+fn test(
+    b: &[u8],
+    width: usize,
+    from: usize,
+    to: usize,
+    marks: &[u8],
+    all: bool,
+    order: &[u16; 8192],
+    ranks: &[u16; 8192],
+    m: usize,
+) -> bool
+    requires { ⌜ (length (now marks) * width ≤ length (now b)) × (1 ≤ from) × (from ≤ to) × (length (now marks) ≤ 8192) × (m ≤ 8192) ⌝ }
+    ensures { λ r. ⌜ r ≡ noneAgain (field from to) width (now (b .entry)) all (now (marks .entry)) (length (now (marks .entry))) ⌝ }
+{
+    let found = rise(b, width, from, to, marks, all, order, m);
+    if found == SAME {
+        return false;
+    }
+    let covered = covers(marks, all, order, ranks, m);
+    if (found == RISING) & covered {
+        return true;
+    }
+    search(b, width, from, to, marks, all)
+}
+
+fn decide(b: &[u8], width: usize, from: usize, to: usize, marks: &[u8], all: bool) -> bool
+    requires { ⌜ (length (now marks) * width ≤ length (now b)) × (1 ≤ from) × (from ≤ to) ⌝ }
+    ensures { λ r. ⌜ r ≡ noneAgain (field from to) width (now (b .entry)) all (now (marks .entry)) (length (now (marks .entry))) ⌝ }
+{
+    if MOST < marks.len() {
+        return search(b, width, from, to, marks, all);
+    }
+    let mut order = [0u16; 8192];
+    let mut ranks = [0u16; 8192];
+    let m = sorting::sort(b, width, from, to, marks, all, &mut order, &mut ranks);
+    test(b, width, from, to, marks, all, &order, &ranks, m)
+}
+
+// Have no two of the parts marked 0 the same at positions `from` to `to`.
+pub fn are_apart(b: &[u8], width: usize, from: usize, to: usize, marks: &[u8]) -> bool
+    requires { ⌜ (length (now marks) * width ≤ length (now b)) × (1 ≤ from) × (from ≤ to) ⌝ }
+    ensures { λ r. ⌜ r ≡ distinct (map (field from to) (pick good (now (marks .entry)) (chop width (length (now (marks .entry))) (now (b .entry))))) ⌝ }
+{
+    decide(b, width, from, to, marks, false)
+}
+
+// Is each part marked 0 the first that has what it has at positions `from` to `to`.
+pub fn are_firsts(b: &[u8], width: usize, from: usize, to: usize, marks: &[u8]) -> bool
+    requires { ⌜ (length (now marks) * width ≤ length (now b)) × (1 ≤ from) × (from ≤ to) ⌝ }
+    ensures { λ r. ⌜ r ≡ firsts (map (field from to) (chop width (length (now (marks .entry))) (now (b .entry)))) (now (marks .entry)) ⌝ }
+{
+    decide(b, width, from, to, marks, true)
+}
