@@ -1,34 +1,30 @@
 -- What the functions of this crate cite. Assumes nothing.
 use mathlib.Core.Path.{_≡_, refl, sym, _∙_}
 use mathlib.Core.Bool.{Bool, true, false, _&&_, true≢false}
-use mathlib.Core.List.{List, [], map, map-append}
-use Prim.Native.Nat.{ℕ, zero, suc, _+_, _*_, _-_, _≤_, _<_}
+use mathlib.Core.List.{List, [], map}
+use Prim.Native.Nat.{ℕ, zero, suc, _*_, _-_, _≤_, _<_}
 use native.Mathlib.Omega.{arith}
 use lib.Dec.{eqb}
-use lib.ListN.{length, take, getD, set, length-map, List·getD-map}
-use lib.Seq.{take-at}
+use lib.ListN.{length, getD, set, length-map, List·getD-map}
 use Rattle.theory.specs.Truth.{and-assoc}
-use Rattle.theory.specs.Same.{eqs, eqs-true, eq-eqs, mem}
+use Rattle.theory.specs.Same.{eqs, eqs-true, eq-eqs}
 use Rattle.theory.specs.Count.{bump, bump-le}
-use Rattle.theory.specs.Parts.{chop, partAt, partsFrom, parts-start, parts-step, parts-end, length-chop}
-use Rattle.theory.specs.Join.{getD-chop, chop-split}
-use Rattle.theory.specs.Walk.{each, some}
-use Rattle.theory.specs.Scan.{some-key}
+use Rattle.theory.specs.Parts.{chop, partAt, length-chop}
+use Rattle.theory.specs.Join.{getD-chop}
+use Rattle.theory.specs.Walk.{each}
 use Rattle.theory.specs.Pick.{good, pick}
 use Rattle.theory.specs.Distinct.{distinct}
 use Rattle.theory.specs.Tally.{tally}
-use Rattle.theory.specs.Among.{good-is}
 use Rattle.texts.specs.Field.{field}
 use Rattle.texts.specs.Laws.{field-field}
 use Rattle.numbers.specs.Number.{number}
 use Rattle.columns.specs.Columns.{text, panOf}
-use Rattle.register.specs.Search.{holdsPan}
 use Rattle.hgv.specs.Layout.{lineLength, linesIn, body, linesOf}
 use Rattle.hgv.specs.Laws.{lines-room, length-lines}
 use Rattle.hgc.specs.Confirmation.{answerLength}
 use Rattle.pairing.specs.Backwards.{isLast, lower, waiting, paired, pairsUp, length-paired}
 use Rattle.pairing.specs.Pairing.{firsts}
-use Rattle.pairing.specs.Turns.{Pairs, pairs-turn, lower-hit, lower-miss, last-some, FirstsFrom, firsts-on, firsts-off, firsts-end}
+use Rattle.pairing.specs.Turns.{Pairs, pairs-turn, lower-hit, lower-miss, last-some}
 use Rattle.receipts.specs.Receipt.{answersIn, behindHead, takenOf, rejectedOf, textsOf, copiesOf, marksOf, takenBy, copiesHold, countsHold, lineHolds, takenHold, linesHold}
 use Rattle.receipts.specs.Laws.{answers-room, answers-are}
 use Rattle.matching.specs.Texts.{textsIn}
@@ -43,12 +39,6 @@ length-texts w n b = length-map (chop w n b) text ∙ length-chop w n b
 text-at : (w n : ℕ) (b : List ℕ) (i : ℕ) → i < n → getD (textsIn w n b) i [] ≡ text (partAt w i b)
 unfolding textsIn field
 text-at w n b i h = List·getD-map text (chop w n b) i [] ∙ rw (getD-chop w n b i h)
-
-take-texts : (w n i : ℕ) (b : List ℕ) → i ≤ n → take i (textsIn w n b) ≡ textsIn w i b
-unfolding textsIn
-take-texts w n i b h =
-    let l : length (map text (chop w i b)) ≡ i = length-map (chop w i b) text ∙ length-chop w i b in
-    rw (chop-split w n i b h, map-append text (chop w i b) (partsFrom w n i b)) (take-at (map text (chop w i b)) (map text (partsFrom w n i b)) i l)
 
 -- lines with two PANs have two texts
 pub other-pan : (a b p : List ℕ) → p ≡ panOf b → (r : Bool) → r ≡ eqs (panOf a) p → r ≡ false → eqs (text a) (text b) ≡ false
@@ -97,56 +87,6 @@ module _ (w n : ℕ) (lines : List ℕ) (v m : ℕ) (answers : List ℕ) where
       let r : Bool = isLast (textsIn v m answers) k (getD (textsIn w n lines) (i - 1) []) in
       let f : s ≡ bump r 0 = e ∙ rw (text-at w n lines (i - 1) (omega arith), ← q, last-within v m k answers (text x) c) in
       pairs-turn (textsIn w n lines) (textsIn v m answers) i k ms p (i - 1) (omega arith) (omega (arith, length-texts w n lines)) (omega arith) r refl (k - s) (lowered r k s f) (set ms (i - 1) s) (rw f)
-
--- ---- one of the first n lines has the text t: those from the place i on decide
-
-unfoldable pub Seeking : ℕ → ℕ → List ℕ → List ℕ → ℕ → Type 0
-Seeking w n t b i = mem t (textsIn w n b) ≡ mem t (map text (partsFrom w n i b))
-
-module _ (w n : ℕ) (t b : List ℕ) where
-  pub seek-start : Seeking w n t b 0
-  unfolding Seeking textsIn
-  seek-start = rw (parts-start w n b)
-
-  module _ (i : ℕ) (a : Seeking w n t b i) where
-    pub seek-end : n ≤ i → mem t (textsIn w n b) ≡ false
-    unfolding Seeking mem
-    seek-end h = a ∙ rw (parts-end w n b i h)
-
-    -- x is the line at i
-    module _ (h : i < n) (x : List ℕ) (p : x ≡ partAt w i b) (r : Bool) (e : r ≡ eqs t (text x)) where
-      pub seek-on : r ≡ false → Seeking w n t b (i + 1)
-      unfolding Seeking mem
-      seek-on q = a ∙ rw (parts-step w n b i h, ← p, ← e, q)
-
-      pub seek-hit : r ≡ true → mem t (textsIn w n b) ≡ true
-      unfolding Seeking mem
-      seek-hit q = a ∙ rw (parts-step w n b i h, ← p, ← e, q)
-
--- ---- each line marked 0 is the first of its text
-
-module _ (w n : ℕ) (b vs : List ℕ) (i : ℕ) (f : FirstsFrom (textsIn w n b) vs i) where
-  pub first-end : n ≤ i → firsts (textsIn w n b) vs ≡ true
-  first-end h = firsts-end (textsIn w n b) vs i f (omega (arith, length-texts w n b))
-
-  -- x is the line at i, and r says whether a line before it has its text
-  module _ (h : i < n) (l : i < length vs) (x : List ℕ) (p : x ≡ partAt w i b) (r : Bool) (e : r ≡ mem (text x) (textsIn w i b)) where
-    within : i < length (textsIn w n b)
-    within = omega (arith, length-texts w n b)
-
-    again : eqb (getD vs i 0) 0 && r ≡ good (getD vs i 0) && mem (getD (textsIn w n b) i []) (take i (textsIn w n b))
-    again = rw (good-is (getD vs i 0), text-at w n b i h, take-texts w n i b (omega arith), ← p, ← e)
-
-    pub first-on : eqb (getD vs i 0) 0 && r ≡ false → FirstsFrom (textsIn w n b) vs (i + 1)
-    first-on t = firsts-on (textsIn w n b) vs i f within l (eqb (getD vs i 0) 0 && r) again t
-
-    pub first-off : eqb (getD vs i 0) 0 && r ≡ true → firsts (textsIn w n b) vs ≡ false
-    first-off t = firsts-off (textsIn w n b) vs i f within l (eqb (getD vs i 0) 0 && r) again t
-
--- r says whether one of the lines ls has the PAN of the line x
-pub named-is : (x : List ℕ) (ls : List (List ℕ)) (p : List ℕ) → p ≡ panOf x → (r : Bool) → r ≡ some (holdsPan p) ls → r ≡ mem (panOf x) (map panOf ls)
-unfolding holdsPan
-named-is x ls p q r e = e ∙ some-key panOf p ls ∙ rw q
 
 -- ---- as many marks as lines
 

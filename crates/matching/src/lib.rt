@@ -5,7 +5,7 @@ ghost use mathlib.Core.List.{map};
 ghost use Prim.Native.Nat.{_*_, _≤_};
 ghost use lib.Dec.{eqb};
 ghost use lib.ListN.{length};
-ghost use Rattle.theory.specs.Same.{eqs, mem};
+ghost use Rattle.theory.specs.Same.{eqs};
 ghost use Rattle.theory.specs.Count.{bump};
 ghost use Rattle.theory.specs.Parts.{chop};
 ghost use Rattle.theory.specs.Walk.{each};
@@ -71,35 +71,18 @@ fn pair(lines: &[u8], answers: &[u8], n: usize, marks: &mut [u8]) -> usize
     k
 }
 
-// Has one of the first n lines the text of l.
-fn is_among(lines: &[u8], n: usize, l: &[u8]) -> bool
-    requires { ⌜ n * lineLength ≤ length (now lines) ⌝ }
-    ensures { λ r. ⌜ r ≡ mem (text (now (l .entry))) (textsIn lineLength n (now (lines .entry))) ⌝ }
-{
-    let mut i: usize = 0;
-    while i < n {
-        if have_same_text(l, texts::part(lines, hgv::LINE, i)) {
-            return true;
-        }
-        i += 1;
-    }
-    false
-}
-
 // Is each line marked 0 the first of its text.
 fn are_firsts(lines: &[u8], marks: &[u8]) -> bool
     requires { ⌜ length (now marks) * lineLength ≤ length (now lines) ⌝ }
     ensures { λ r. ⌜ r ≡ firsts (textsIn lineLength (length (now (marks .entry))) (now (lines .entry))) (now (marks .entry)) ⌝ }
 {
-    let mut i: usize = 0;
-    while i < marks.len() {
-        let again = is_among(lines, i, texts::part(lines, hgv::LINE, i));
-        if (marks[i] == 0) & again {
-            return false;
-        }
-        i += 1;
-    }
-    true
+    ordering::are_firsts(
+        lines,
+        hgv::LINE,
+        hgc::places::TEXT_FROM,
+        hgc::places::TEXT_TO,
+        marks,
+    )
 }
 
 // Have no two lines marked 0 one PAN.
@@ -107,17 +90,7 @@ fn are_apart(lines: &[u8], marks: &[u8]) -> bool
     requires { ⌜ length (now marks) * lineLength ≤ length (now lines) ⌝ }
     ensures { λ r. ⌜ r ≡ distinct (map panOf (pick good (now (marks .entry)) (chop lineLength (length (now (marks .entry))) (now (lines .entry))))) ⌝ }
 {
-    let mut i: usize = 0;
-    while i < marks.len() {
-        let l = texts::part(lines, hgv::LINE, i);
-        let pan = texts::field(l, columns::PAN_FROM, columns::PAN_TO);
-        let named = verdicts::is_named(lines, marks, i, pan);
-        if (marks[i] == 0) & named {
-            return false;
-        }
-        i += 1;
-    }
-    true
+    ordering::are_apart(lines, hgv::LINE, columns::PAN_FROM, columns::PAN_TO, marks)
 }
 
 // Has a line the sender for its actor, and keeps it L1, L5 to L10.

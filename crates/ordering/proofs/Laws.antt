@@ -1,20 +1,20 @@
 -- What the functions of this crate cite. Assumes nothing.
 use mathlib.Core.Path.{_≡_, refl, sym, ap, _∙_}
-use mathlib.Core.Bool.{Bool, true, false, not, _&&_, _||_, true≢false, false≢true}
-use mathlib.Core.List.{List, [], _∷_, _++_, map, map-append}
+use mathlib.Core.Bool.{Bool, true, false, not, _&&_, _||_, true≢false}
+use mathlib.Core.List.{List, [], _∷_, map, map-append}
 use Prim.Native.Nat.{ℕ, zero, suc, _+_, _-_, _*_, _≤_, _<_}
 use native.Mathlib.Omega.{arith}
 use native.Mathlib.Numerals.{add-one}
 use lib.Dec.{eqb, ltb}
-use lib.ListN.{length, take, getD, length-map, List·getD-map}
+use lib.ListN.{length, take, getD, length-map}
 use lib.Seq.{take-all, take-suc, take-at}
 use borrow.Author.Tests.{eq-eqb, ltb-true, ltb-false, eqb-true, eqb-false, not-true}
-use Rattle.theory.specs.Truth.{and-left, and-right, and-split, and-both, and-none, and-true, or-left, or-right, or-both, or-true, or-false, same-truth}
+use Rattle.theory.specs.Truth.{and-left, and-right, and-split, and-both, and-none, or-both, or-true, or-false}
 use Rattle.theory.specs.Same.{eqs, eqs-true, eq-eqs, mem, mem-append}
 use Rattle.theory.specs.Keep.{onto, map-onto, mem-onto}
 use Rattle.theory.specs.Parts.{chop, partAt, partsFrom, part-fits, length-part, length-chop}
 use Rattle.theory.specs.Join.{getD-chop, chop-split, chop-snoc}
-use Rattle.theory.specs.Pick.{good, pick, pick-next, good-no, good-zero}
+use Rattle.theory.specs.Pick.{good, pick, pick-next}
 use Rattle.theory.specs.Among.{good-is}
 use Rattle.theory.specs.Distinct.{distinct}
 use Rattle.pairing.specs.Pairing.{firsts}

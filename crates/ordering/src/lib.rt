@@ -1,5 +1,6 @@
 // Keys of the parts of a block: have no two parts one, and is each the first that has its own. The parts are sorted by
-// their keys, and the order is tested: in one that holds, equal keys are neighbours. Any other leads to the plain search.
+// their keys, and the order is tested, since nothing is proved of the sort: where it rises and no part is missing, equal
+// keys are neighbours.
 ghost use mathlib.Core.Path.{_≡_};
 ghost use mathlib.Core.Bool.{true, false};
 ghost use mathlib.Core.List.{map};
@@ -15,12 +16,11 @@ ghost use Rattle.ordering.specs.Order.{Less, Step, Rising, Covers};
 
 mod sorting;
 
-const MOST: usize = 8192;
-
-// What two parts are to each other, and all neighbours of an order.
+// What is found of two parts, or of all neighbours in an order: they are in order, or a key stands there again, or neither
+// is known.
 const RISING: u8 = 0;
 
-const SAME: u8 = 1;
+const AGAIN: u8 = 1;
 
 const LOST: u8 = 2;
 
@@ -60,10 +60,10 @@ fn compare(s: &[u8], t: &[u8]) -> u8
         }
         i += 1;
     }
-    SAME
+    AGAIN
 }
 
-// Of two parts with one key: is the first to be in front, and may it.
+// Two parts with one key are in order where only the first is marked 0, and where both count the key stands there again.
 fn stay(marks: &[u8], all: bool, a: usize, c: usize) -> u8
     requires { ⌜ (a < length (now marks)) × (c < length (now marks)) ⌝ }
     ensures { λ r. ⌜ (r ≡ 0 → (a < c) × (good (getD (now (marks .entry)) c 0) ≡ false)) × (r ≡ 1 → (a < c) × (good (getD (now (marks .entry)) c 0) ≡ true) × (counted all (getD (now (marks .entry)) a 0) ≡ true)) ⌝ }
@@ -75,11 +75,12 @@ fn stay(marks: &[u8], all: bool, a: usize, c: usize) -> u8
         return RISING;
     }
     if counts(marks[a], all) {
-        return SAME;
+        return AGAIN;
     }
     LOST
 }
 
+// From the part a to its neighbour c.
 fn step(
     b: &[u8],
     width: usize,
@@ -94,7 +95,7 @@ fn step(
     ensures { λ r. ⌜ (r ≡ 0 → Step (field from to) width (now (b .entry)) (now (marks .entry)) a c) × (r ≡ 1 → again (field from to) width (now (b .entry)) all (now (marks .entry)) c ≡ true) ⌝ }
 {
     let keys = compare(key(b, width, from, to, a), key(b, width, from, to, c));
-    if keys != SAME {
+    if keys != AGAIN {
         return keys;
     }
     stay(marks, all, a, c)
@@ -185,7 +186,7 @@ fn is_seen(
     false
 }
 
-// Each part against all in front of it.
+// Each part beside all in front of it: as many comparisons as the square of the parts.
 fn search(b: &[u8], width: usize, from: usize, to: usize, marks: &[u8], all: bool) -> bool
     requires { ⌜ (length (now marks) * width ≤ length (now b)) × (1 ≤ from) × (from ≤ to) ⌝ }
     ensures { λ r. ⌜ r ≡ noneAgain (field from to) width (now (b .entry)) all (now (marks .entry)) (length (now (marks .entry))) ⌝ }
@@ -210,7 +211,7 @@ fn search(b: &[u8], width: usize, from: usize, to: usize, marks: &[u8], all: boo
     true
 }
 
-// By the order, where it is one.
+// By the order, where it is one. Any other leads to the search.
 fn test(
     b: &[u8],
     width: usize,
@@ -226,7 +227,7 @@ fn test(
     ensures { λ r. ⌜ r ≡ noneAgain (field from to) width (now (b .entry)) all (now (marks .entry)) (length (now (marks .entry))) ⌝ }
 {
     let found = rise(b, width, from, to, marks, all, order, m);
-    if found == SAME {
+    if found == AGAIN {
         return false;
     }
     let covered = covers(marks, all, order, ranks, m);
@@ -240,7 +241,7 @@ fn decide(b: &[u8], width: usize, from: usize, to: usize, marks: &[u8], all: boo
     requires { ⌜ (length (now marks) * width ≤ length (now b)) × (1 ≤ from) × (from ≤ to) ⌝ }
     ensures { λ r. ⌜ r ≡ noneAgain (field from to) width (now (b .entry)) all (now (marks .entry)) (length (now (marks .entry))) ⌝ }
 {
-    if MOST < marks.len() {
+    if sorting::MOST < marks.len() {
         return search(b, width, from, to, marks, all);
     }
     let mut order = [0u16; 8192];

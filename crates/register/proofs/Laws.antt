@@ -1,22 +1,25 @@
 -- What the walks over the slots need. Assumes nothing.
-use mathlib.Core.Path.{_≡_, refl, sym, _∙_}
-use mathlib.Core.Bool.{Bool, true, false, not, _&&_}
+use mathlib.Core.Path.{_≡_, refl, sym, ap, _∙_}
+use mathlib.Core.Bool.{Bool, true, false, _&&_}
 use mathlib.Core.List.{List, [], _∷_, map}
-use Prim.Native.Nat.{ℕ, _+_, _-_, _*_, _%_, _≤_, _<_}
+use Prim.Native.Nat.{ℕ, zero, suc, _-_, _*_, _%_, _≤_}
 use native.Mathlib.Omega.{arith}
-use lib.Dec.{eqb, leb, ltb}
-use lib.ListN.{length, take, drop, length-drop}
-use Rattle.theory.specs.Same.{eqs, eqs-sym, mem}
+use lib.Dec.{eqb, leb}
+use lib.ListN.{length, take, drop, replicate, length-take, length-drop, length-replicate}
+use borrow.Author.Tests.{leb-true}
+use Rattle.theory.specs.Truth.{and-right}
+use Rattle.theory.specs.Same.{eqs, eqs-sym}
 use Rattle.theory.specs.Count.{count, Counted, counted-end}
-use Rattle.theory.specs.Parts.{chop, partAt, partsFrom, parts-start, parts-step, parts-end, length-chop}
-use Rattle.theory.specs.Place.{place-some, drop-chop}
-use Rattle.theory.specs.Walk.{each, some}
+use Rattle.theory.specs.Parts.{chop, partsFrom, parts-start, length-chop}
+use Rattle.theory.specs.Place.{drop-chop}
+use Rattle.theory.specs.Walk.{each}
 use Rattle.theory.specs.Distinct.{distinct}
-use Rattle.theory.specs.Keep.{sift, length-onto}
+use Rattle.theory.specs.Keep.{onto, sift, length-onto}
+use Rattle.theory.specs.Pick.{good, pick, pick-take}
 use Rattle.columns.specs.Columns.{actor, panOf}
 use Rattle.register.specs.Register.{slotLength, slotsMost, slotsIn, slotsOf, usedForm, freeForm, records, usedIn, inOrder}
 use Rattle.register.specs.Laws.{used-most, used-fits, records-chop, slots-front}
-use Rattle.register.specs.Search.{holdsPan, placeOf, of, countOf}
+use Rattle.register.specs.Search.{of, countOf}
 
 -- the used slots lie within the block
 pub used-room : (b : List ℕ) (used : ℕ) → used ≡ usedIn b → used * slotLength ≤ length b
@@ -38,57 +41,32 @@ module _ (who : List ℕ) where
   unfolding slotsOf
   count-is b i k v h = counted-end slotLength (slotsIn b) actor who b i k v h ∙ count-actor (chop slotLength (slotsIn b) b)
 
--- ---- all PANs are different
+-- the slots from a place on, as the code lends them
+pub between-is : (n : ℕ) (b : List ℕ) (from : ℕ) → (from ≤ n) × (n * slotLength ≤ length b)
+    → slotsOf (take (n * slotLength - from * slotLength) (drop (from * slotLength) b)) ≡ partsFrom slotLength n from b
+unfolding partsFrom
+between-is n b from h =
+    let e : n * slotLength - from * slotLength ≡ (n - from) * slotLength = omega (arith, h .0) in
+    rw e (slots-front (drop (from * slotLength) b) (n - from) (simp length-drop (omega (arith, h .0, h .1))))
 
-some-mem : (pan : List ℕ) (R : List (List ℕ)) → some (holdsPan pan) R ≡ mem pan (map panOf R)
-unfolding some mem holdsPan
-some-mem pan [] = refl
-some-mem pan (x ∷ R) = rw (some-mem pan R, eqs-sym (panOf x) pan)
+-- ---- all PANs are different: each slot is asked
 
-module _ (n : ℕ) (b : List ℕ) where
-  abbrev pansFrom : ℕ → List (List ℕ)
-  pansFrom i = map panOf (partsFrom slotLength n i b)
+pick-zeros : (m : ℕ) (xs : List (List ℕ)) → length xs ≤ m → pick good (replicate m 0) xs ≡ xs
+unfolding pick good onto
+pick-zeros zero [] h = refl
+pick-zeros zero (x ∷ xs) h = absurd (omega arith)
+pick-zeros (suc m) [] h = refl
+pick-zeros (suc m) (x ∷ xs) h = ap (λ ys. x ∷ ys) (pick-zeros m xs (omega arith))
 
-  -- the slots from a place on, as the code lends them
-  pub between-is : (from : ℕ) → (from ≤ n) × (n * slotLength ≤ length b)
-      → slotsOf (take (n * slotLength - from * slotLength) (drop (from * slotLength) b)) ≡ partsFrom slotLength n from b
-  unfolding partsFrom
-  between-is from h =
-      let e : n * slotLength - from * slotLength ≡ (n - from) * slotLength = omega (arith, h .0) in
-      rw e (slots-front (drop (from * slotLength) b) (n - from) (simp length-drop (omega (arith, h .0, h .1))))
+module _ (n m : ℕ) (h : n ≤ m) where
+  pub length-zeros : length (take {A = ℕ} n (replicate m 0)) ≡ n
+  length-zeros = simp (length-take, length-replicate) (omega arith)
 
-  pub behind-is : (from : ℕ) (pan rest : List ℕ) (r : ℕ) → slotsOf rest ≡ partsFrom slotLength n from b → r ≡ placeOf pan (slotsOf rest)
-      → ltb r (n - from) ≡ some (holdsPan pan) (partsFrom slotLength n from b)
-  unfolding placeOf partsFrom
-  behind-is from pan rest r e f =
-      let T : List (List ℕ) = chop slotLength (n - from) (drop (from * slotLength) b) in
-      rw (f, e) (sym (place-some (holdsPan pan) T ∙ rw (length-chop slotLength (n - from) (drop (from * slotLength) b))))
-
-  -- what is left decides
-  unfoldable pub DifferFrom : ℕ → Type 0
-  DifferFrom i = distinct (map panOf (chop slotLength n b)) ≡ distinct (pansFrom i)
-
-  pub differ-start : DifferFrom 0
-  unfolding DifferFrom
-  differ-start = rw (parts-start slotLength n b)
-
-  module _ (i : ℕ) (v : DifferFrom i) where
-    pub differ-end : n ≤ i → distinct (map panOf (chop slotLength n b)) ≡ true
-    unfolding DifferFrom distinct
-    differ-end h = v ∙ rw (parts-end slotLength n b i h)
-
-    module _ (h : i < n) (x : List ℕ) (p : x ≡ partAt slotLength i b) (pan : List ℕ) (f : pan ≡ panOf x) (r : Bool)
-        (e : r ≡ some (holdsPan pan) (partsFrom slotLength n (i + 1) b)) where
-      step : distinct (map panOf (chop slotLength n b)) ≡ not r && distinct (pansFrom (i + 1))
-      unfolding DifferFrom distinct
-      step = v ∙ rw (parts-step slotLength n b i h, ← p, ← f, ← some-mem pan (partsFrom slotLength n (i + 1) b), ← e)
-
-      pub differ-on : r ≡ false → DifferFrom (i + 1)
-      unfolding DifferFrom
-      differ-on t = step ∙ rw t
-
-      pub differ-off : r ≡ true → distinct (map panOf (chop slotLength n b)) ≡ false
-      differ-off t = step ∙ rw t
+  pub all-asked : (b : List ℕ) (r : Bool) → r ≡ distinct (map panOf (pick good (take n (replicate m 0)) (chop slotLength (length (take {A = ℕ} n (replicate m 0))) b)))
+      → r ≡ distinct (map panOf (chop slotLength n b))
+  all-asked b r e =
+      let l : length (chop slotLength n b) ≡ n = length-chop slotLength n b in
+      e ∙ rw (length-zeros, pick-take good n (replicate m 0) (chop slotLength n b) l, pick-zeros m (chop slotLength n b) (omega arith))
 
 -- ---- in order
 
@@ -99,6 +77,10 @@ module _ (b : List ℕ) where
   pub unsized : sizes ≡ false → inOrder b ≡ false
   unfolding inOrder
   unsized h = rw h
+
+  -- no more are used than there may be
+  pub used-few : (u : ℕ) → u ≡ usedIn b → sizes ≡ true → u ≤ slotsMost
+  used-few u m t = omega (arith, used-most b, leb-true (slotsIn b) slotsMost (and-right (eqb (length b % slotLength) 0) (leb (slotsIn b) slotsMost) t))
 
   -- u slots are used: `front` holds them, and `rest` those behind them
   pub order-is : (u : ℕ) → u ≡ usedIn b → sizes ≡ true → (front rest : List ℕ) → slotsOf front ≡ partsFrom slotLength u 0 b → slotsOf rest ≡ partsFrom slotLength (slotsIn b) u b

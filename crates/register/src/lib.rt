@@ -6,7 +6,7 @@ ghost use mathlib.Core.List.{map};
 ghost use Prim.Native.Nat.{_*_, _≤_};
 ghost use lib.ListN.{length};
 ghost use Rattle.theory.specs.Parts.{chop, partsFrom};
-ghost use Rattle.theory.specs.Walk.{each, some};
+ghost use Rattle.theory.specs.Walk.{each};
 ghost use Rattle.theory.specs.Distinct.{distinct};
 ghost use Rattle.columns.specs.Columns.{panOf};
 ghost use Rattle.register.specs.Register.{slotsOf, marked, usedForm, freeForm, usedIn, usedPart, inOrder};
@@ -158,27 +158,13 @@ fn slots_between<'a>(b: &'a [u8], from: usize, n: usize) -> &'a [u8]
     &b[at..behind]
 }
 
-// Has one of the slots from place `from` to place n this PAN.
-fn is_behind(b: &[u8], from: usize, n: usize, pan: &[u8]) -> bool
-    requires { ⌜ (from ≤ n) × (n * 128 ≤ length (now b)) ⌝ }
-    ensures { λ r. ⌜ r ≡ some (holdsPan (now (pan .entry))) (partsFrom 128 n from (now (b .entry))) ⌝ }
-{
-    find(slots_between(b, from, n), pan) < n - from
-}
-
+// Have the first n slots different PANs.
 fn all_different(b: &[u8], n: usize) -> bool
-    requires { ⌜ n * 128 ≤ length (now b) ⌝ }
+    requires { ⌜ (n * 128 ≤ length (now b)) × (n ≤ 8192) ⌝ }
     ensures { λ r. ⌜ r ≡ distinct (map panOf (chop 128 n (now (b .entry)))) ⌝ }
 {
-    let mut i: usize = 0;
-    while i < n {
-        let pan = texts::field(texts::part(b, SLOT, i), columns::PAN_FROM, columns::PAN_TO);
-        if is_behind(b, i + 1, n, pan) {
-            return false;
-        }
-        i += 1;
-    }
-    true
+    let asked = [0u8; SLOTS];
+    ordering::are_apart(b, SLOT, columns::PAN_FROM, columns::PAN_TO, &asked[..n])
 }
 
 // 0 to 8,192 whole slots, the used ones first and in form, all their PANs different, and zeros behind them.

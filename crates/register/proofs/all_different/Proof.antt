@@ -1,53 +1,22 @@
--- The invariant: what is left decides. Assumes nothing.
-use borrow.Author.Needs.{needs}
+-- Assumes nothing.
+use Rattle.register.proofs.Laws.{length-zeros, all-asked}
 use mathlib.Core.Path.{sym}
-use Prim.Native.Nat.{_≤_, _-_}
 use native.Mathlib.Omega.{arith}
-use Rattle.theory.specs.Parts.{part-fits}
-use Rattle.register.proofs.Laws.{DifferFrom, differ-start, differ-on, differ-off, differ-end}
+use borrow.Author.Needs.{needs}
 use Rattle.register.proofs.all_different.Statement.{statement}
 use Rattle.register.proofs.all_different.Tie as tie
 
-abbrev Inv-loop : tie.InvT-loop
-Inv-loop b n i₀ i = (i ≤ n) × DifferFrom n b i
+slice-aggregate-are-apart : tie.Need-slice-aggregate-are-apart
+slice-aggregate-are-apart c = sym (length-zeros _ 8192 (c .before .before .pre .1))
 
-abbrev μ-loop : tie.MeasureT-loop
-μ-loop b n i₀ i = n - i
+are-apart-requires : tie.Need-are-apart-requires
+are-apart-requires c κs = let p = c .before .before .pre in
+    (rw (length-zeros _ 8192 (p .1)) (p .0), omega arith, omega arith)
 
-loop-holds : tie.Need-loop-holds Inv-loop μ-loop
-loop-holds c = (omega arith, differ-start _ _)
-
-part-requires : tie.Need-part-requires Inv-loop μ-loop
-part-requires c κs = part-fits 128 (c .before .before .before .args .n) (c .before .loop .i) _ (c .before .before .before .pre) (c .loop-test .taken)
-
-returns : tie.Need-returns Inv-loop μ-loop
-returns c =
-    let y = c .before .before in
-    let x = y .before .before in
-    sym (differ-off _ _ _ (x .before .loop .inv .1) (x .loop-test .taken) _ (y .before .part .ensures) _ (y .field .ensures) _ (c .before .is-behind .ensures) (c .if1 .taken))
-
-loop-again : tie.Need-loop-again Inv-loop μ-loop
-loop-again c =
-    let y = c .before .before in
-    let x = y .before .before in
-    (omega arith, differ-on _ _ _ (x .before .loop .inv .1) (x .loop-test .taken) _ (y .before .part .ensures) _ (y .field .ensures) _ (c .before .is-behind .ensures) (c .if1 .left))
-
-returns-2 : tie.Need-returns-2 Inv-loop μ-loop
-returns-2 c = sym (differ-end _ _ _ (c .before .loop .inv .1) (c .loop-test .left))
+returns : tie.Need-returns
+returns c = all-asked _ _ (c .before .before .before .pre .1) _ _ (c .are-apart .ensures)
 
 pub all-different-spec : {M : Type 1} → statement M
 all-different-spec =
     tie.close
-    (tie.spec
-    Inv-loop
-    μ-loop
-    loop-holds
-    part-requires
-    (λ c κs. search needs)
-    (λ c. search needs)
-    (λ c κs. search needs)
-    returns
-    (λ c. search needs)
-    (λ c. search needs)
-    loop-again
-    returns-2)
+    (tie.spec (λ c. search needs) slice-aggregate-are-apart are-apart-requires returns)

@@ -5,7 +5,7 @@ use borrow.Author.Needs.{needs}
 use borrow.Author.Tests.{not-true, not-false}
 use native.Mathlib.Nat.{div-mul-le-self}
 use Rattle.register.specs.Laws.{used-most}
-use Rattle.register.proofs.Laws.{used-room, unsized, order-is}
+use Rattle.register.proofs.Laws.{used-room, used-few, unsized, order-is}
 use Rattle.register.proofs.in_order.Statement.{statement}
 use Rattle.register.proofs.in_order.Tie as tie
 
@@ -19,7 +19,9 @@ slots-between-requires-2 : tie.Need-slots-between-requires-2
 slots-between-requires-2 c κs = (rw (c .before .before .used-slots .ensures) (used-most _), div-mul-le-self _ 128)
 
 all-different-requires : tie.Need-all-different-requires
-all-different-requires c κs = used-room _ _ (c .before .before .before .before .used-slots .ensures)
+all-different-requires c κs =
+    let x = c .before .before .before .before in
+    (used-room _ _ (x .used-slots .ensures), used-few _ _ (x .used-slots .ensures) (not-false _ (x .before .if1 .left)))
 
 returns-2 : tie.Need-returns-2
 returns-2 c =
