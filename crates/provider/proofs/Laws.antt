@@ -25,7 +25,8 @@ use Rattle.register.specs.Search.{of, countOf}
 use Rattle.register.specs.Laws.{slots-used, used-slots}
 use Rattle.hgc.specs.Confirmation.{answerLength}
 use Rattle.pairing.specs.Telling.{toldAt, told-left}
-use Rattle.receipts.specs.Receipt.{answersIn, behindHead, answersOf, reasonOf, reasonHolds, reasonsOf}
+use Rattle.receipts.specs.Receipt.{answersIn, behindHead, answersOf, reasonOf, reasonHolds}
+use Rattle.provider.specs.ReadBack.{reasonsOf}
 use Rattle.receipts.specs.Laws.{answers-room, answers-are}
 use Rattle.provider.specs.Update.{ownHolds}
 

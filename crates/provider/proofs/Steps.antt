@@ -22,10 +22,10 @@ use Rattle.upkeep.specs.Stays.{Holds}
 use Rattle.applying.specs.Fit.{Fit}
 use Rattle.pairing.specs.Pairing.{told}
 use Rattle.pairing.specs.Backwards.{paired}
-use Rattle.receipts.specs.Receipt.{answersIn, answersOf, receptionOf, reasonHolds, textsOf, copiesOf, marksOf, takenBy, receiptHolds, reasonsOf, readVerdicts}
+use Rattle.receipts.specs.Receipt.{answersIn, answersOf, receptionOf, reasonHolds, textsOf, copiesOf, marksOf, takenBy, receiptHolds}
 use Rattle.provider.specs.declared.Counted.{Counted}
 use Rattle.provider.specs.Answer.{refusal, counted}
-use Rattle.provider.specs.ReadBack.{fileStops, readAnswer, toldTo, verdictsAfter}
+use Rattle.provider.specs.ReadBack.{reasonsOf, readVerdicts, fileStops, readAnswer, toldTo, verdictsAfter}
 use Rattle.provider.specs.Update.{copyStops, following, updateAnswer, updated, copyAfter}
 use Rattle.provider.specs.Numbers.{
   file-sized,

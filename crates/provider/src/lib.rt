@@ -14,9 +14,9 @@ ghost use Rattle.hgv.specs.Layout.{linesIn};
 ghost use Rattle.pairing.specs.Pairing.{told};
 ghost use Rattle.pairing.specs.Telling.{toldAt};
 ghost use Rattle.pairing.specs.Backwards.{paired};
-ghost use Rattle.receipts.specs.Receipt.{answersIn, answersOf, reasonHolds, textsOf, copiesOf, marksOf, receiptHolds, reasonsOf};
+ghost use Rattle.receipts.specs.Receipt.{answersIn, answersOf, reasonHolds, textsOf, copiesOf, marksOf, receiptHolds};
 ghost use Rattle.provider.specs.Answer.{refusal, counted};
-ghost use Rattle.provider.specs.ReadBack.{fileStops, readAnswer, verdictsAfter};
+ghost use Rattle.provider.specs.ReadBack.{reasonsOf, fileStops, readAnswer, verdictsAfter};
 ghost use Rattle.provider.specs.Update.{ownHolds, copyStops, updateAnswer, copyAfter};
 
 const SLOT: usize = 128;
