@@ -11,24 +11,10 @@ pub mod words;
 
 use std::ops::Range;
 
+pub use crate::answers::{Counted, Imported};
 pub use pairing::{Clause, CLAUSES};
 use register::SLOT;
 use words::is_real_time;
-
-#[derive(Debug, Clone, Copy, PartialEq, Eq)]
-pub struct Imported {
-    pub number: u64,
-    pub taken: u64,
-    pub rejected: u64,
-    pub length: u64,
-}
-
-#[derive(Debug, Clone, Copy, PartialEq, Eq)]
-pub struct Counted {
-    pub number: u64,
-    pub taken: u64,
-    pub rejected: u64,
-}
 
 /// A stop returns its number and zero for the rest.
 pub fn import_stopped(number: u64) -> Imported {

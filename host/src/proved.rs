@@ -8,16 +8,16 @@
 //!
 //! Here each pair comes from one slice and no two mutable borrows are alike, so the last two hold for every safe caller.
 
+#[cfg(feature = "provider")]
+mod provider;
+
 use std::ops::Range;
 
-/// The number of a stop, or 0, and what an import counts. All but the number are 0 at a stop.
-#[derive(Clone, Copy, Debug, Default, PartialEq, Eq)]
-pub struct Imported {
-    pub number: u64,
-    pub taken: u64,
-    pub rejected: u64,
-    pub length: u64,
-}
+use crate::answers::Imported;
+#[cfg(not(feature = "provider"))]
+pub use crate::plain::{read_back, update};
+#[cfg(feature = "provider")]
+pub use provider::{read_back, update};
 
 extern "C" {
     fn graftspindle_import(

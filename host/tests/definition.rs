@@ -1,4 +1,4 @@
-//! The definition's own cases and the comparison of both implementations.
+//! The definition's own cases and the comparison of all implementations.
 
 #[path = "definition/agreement.rs"]
 mod agreement;

@@ -1,12 +1,14 @@
 //! All implementations on the generator's inputs, and what the generator reaches.
 
 use crate::common::*;
+use graftspindle_host::answers::{Counted, Imported};
 use graftspindle_host::generate::{case, pair, question, sequence, slots, Case, Event};
-use graftspindle_host::plain::{clauses_of_52, rules_broken, Counted, Imported, CLAUSES};
+use graftspindle_host::plain::{clauses_of_52, rules_broken, CLAUSES};
 use std::collections::BTreeMap;
 use std::fmt::Debug;
 
-const SEEDS: u64 = 40_000;
+const SEEDS: u64 = 100_000;
+const SEQUENCES: u64 = 2_000;
 
 type Counts<K> = BTreeMap<K, u64>;
 
@@ -124,31 +126,36 @@ fn apply(engine: &Engine, event: &Event, outcome: &Outcome, copy: &mut [u8]) {
     assert_eq!(applied, Counted { number: 0, taken, rejected });
 }
 
+/// What a sequence leaves: the outcome of each import, and each provider's copy.
+type Left = (Vec<Outcome>, BTreeMap<Vec<u8>, Vec<u8>>);
+
 /// A provider who applies each confirmation he gets holds our records of him.
-fn follow(engine: &Engine, seed: u64, numbers: &mut Counts<u64>) {
+fn follow(engine: &Engine, seed: u64) -> Left {
     let mut register = vec![0; slots(seed) * 128];
-    let mut copies: BTreeMap<Vec<u8>, Vec<u8>> = BTreeMap::new();
+    let (mut outcomes, mut copies) = Left::default();
     for event in sequence(seed) {
         let outcome = import_event(engine, &register, &event);
-        count(numbers, outcome.answer.number);
         if outcome.answer.number == 0 {
             let none = vec![0; register.len()];
             let copy = copies.entry(event.hgv[1..7].to_vec()).or_insert(none);
             apply(engine, &event, &outcome, copy);
         }
-        register = outcome.register;
+        register.clone_from(&outcome.register);
+        outcomes.push(outcome);
         for (actor, copy) in &copies {
-            assert!(*copy == copy_expected(&register, actor), "seed {seed}");
+            assert!(*copy == copy_expected(&register, actor), "{}, seed {seed}", engine.name);
         }
     }
+    (outcomes, copies)
 }
 
 #[test]
 fn sequences() {
-    for engine in ENGINES {
-        let mut numbers = Counts::new();
-        (0..4_000).for_each(|seed| follow(engine, seed, &mut numbers));
-        println!("{}, sequences' numbers: {numbers:?}", engine.name);
-        assert!([0, 21, 22, 24, 28, 33, 34].iter().all(|number| numbers[number] >= 10));
+    let mut numbers = Counts::new();
+    for seed in 0..SEQUENCES {
+        let (outcomes, _) = of_all(|engine| follow(engine, seed));
+        outcomes.iter().for_each(|outcome| count(&mut numbers, outcome.answer.number));
     }
+    println!("sequences' numbers: {numbers:?}");
+    assert!([0, 21, 22, 24, 28, 33, 34].iter().all(|number| numbers[number] >= 10));
 }

@@ -1,7 +1,7 @@
-//! The shorthand of the cases, and both implementations under one form.
+//! The shorthand of the cases, and all implementations under one form.
 
-use graftspindle_host::plain::{Counted, Imported};
-use graftspindle_host::{hashed, plain};
+use graftspindle_host::answers::{Counted, Imported};
+use graftspindle_host::{hashed, plain, proved};
 use std::fmt::Debug;
 use std::ops::Range;
 
@@ -40,6 +40,15 @@ pub const ENGINES: &[Engine] = &[
         read_back: hashed::read_back,
         update: hashed::update,
         in_order: hashed::in_order,
+    },
+    Engine {
+        name: "proved",
+        import: proved::import,
+        by_pan: proved::by_pan,
+        by_plate: proved::by_plate,
+        read_back: proved::read_back,
+        update: proved::update,
+        in_order: |register| proved::by_pan(register, PAN2).0 != 23,
     },
 ];
 
