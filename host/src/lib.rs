@@ -1,5 +1,5 @@
 //! The proved account register, called from Rust: `proved` is the boundary, `register` its safe form, `words` what its
-//! numbers mean.
+//! numbers mean, `files` how a register and its HGC are kept on disk, `command` the command line.
 //!
 //! Beside it the same written from the definition by another hand, to compare it with: `plain` follows the definition
 //! sentence by sentence, `hashed` answers the same with hashed searches, and `generate` makes inputs from a seed, right
@@ -7,7 +7,10 @@
 
 #![deny(unsafe_code)]
 
+pub mod ait;
 pub mod answers;
+pub mod command;
+pub mod files;
 pub mod generate;
 pub mod hashed;
 pub mod plain;

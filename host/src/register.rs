@@ -111,3 +111,11 @@ pub fn read_back(hgv: &[u8], hgc: &[u8]) -> Result<(Counts, Vec<u8>), Number> {
     verdicts.truncate((done.taken + done.rejected) as usize);
     unless_refused(done.number, (Counts { taken: done.taken, rejected: done.rejected }, verdicts))
 }
+
+/// Whether issuer rows are in form: an import judges them before it looks at the HGV, and no HGV is empty.
+pub fn rows_in_form(rows: &[u8]) -> Result<(), Number> {
+    match proved::import(INCREMENTAL.0, b"20000101000000", &mut [], rows, &[], &mut []).number {
+        24 => Err(Number(24)),
+        _ => Ok(()),
+    }
+}
