@@ -16,7 +16,7 @@ mod update;
 use std::ffi::OsString;
 use std::path::Path;
 
-use crate::files::{self, Place, Real};
+use crate::files::{self, Disk, Place};
 use crate::register::{Mode, Register, FULL, INCREMENTAL};
 use arguments::Arguments;
 pub use refusal::Refusal;
@@ -30,7 +30,7 @@ pub struct Command {
     pub options: &'static [&'static str],
     pub usage: &'static str,
     pub help: &'static str,
-    pub run: fn(&Arguments) -> Answer,
+    pub run: fn(&dyn Disk, &Arguments) -> Answer,
 }
 
 const COMMANDS: [&Command; 9] = [
@@ -56,14 +56,14 @@ fn named(given: &[OsString]) -> Option<(&'static Command, &[OsString])> {
 }
 
 /// Runs what stands behind the program's name.
-pub fn run(given: &[OsString]) -> Answer {
+pub fn run(disk: &dyn Disk, given: &[OsString]) -> Answer {
     let Some((command, rest)) = named(given) else {
         return help::without_command(given);
     };
     if rest.iter().any(|word| word == "--help") {
         return Ok(help::of(command));
     }
-    (command.run)(&Arguments::parse(command, rest)?)
+    (command.run)(disk, &Arguments::parse(command, rest)?)
 }
 
 fn mode(given: &Arguments) -> Result<Mode, Refusal> {
@@ -75,15 +75,10 @@ fn mode(given: &Arguments) -> Result<Mode, Refusal> {
 }
 
 /// A register that is only read.
-fn look(path: &Path) -> Result<Register, Refusal> {
+fn look(disk: &dyn Disk, path: &Path) -> Result<Register, Refusal> {
     let place = Place::of_known(path)?;
-    if let Err(fault) = files::tidy(&Real, &place) {
+    if let Err(fault) = files::tidy(disk, &place) {
         eprintln!("graftspindle: what a stopped import left is still there: {fault}");
     }
-    let register = Register::from_bytes(files::Disk::read(&Real, place.path())?);
-    Ok(register)
-}
-
-fn read(path: &Path) -> Result<Vec<u8>, Refusal> {
-    Ok(files::Disk::read(&Real, path)?)
+    Ok(Register::from_bytes(disk.read(place.path())?))
 }

@@ -1,6 +1,7 @@
 //! The command `graftspindle`.
 
 use graftspindle_host::command::{self, Refusal};
+use graftspindle_host::files::Real;
 use std::ffi::OsString;
 use std::io::Write;
 use std::process::ExitCode;
@@ -13,7 +14,7 @@ fn say(text: &str) -> Result<(), Refusal> {
 
 fn main() -> ExitCode {
     let given: Vec<OsString> = std::env::args_os().skip(1).collect();
-    match command::run(&given).and_then(|text| say(&text)) {
+    match command::run(&Real, &given).and_then(|text| say(&text)) {
         Ok(()) => ExitCode::SUCCESS,
         Err(refusal) => {
             eprintln!("graftspindle: {}", refusal.line());

@@ -6,6 +6,7 @@ use std::path::{Path, PathBuf};
 
 use super::arguments::Arguments;
 use super::{look, texts, Answer, Command, Refusal};
+use crate::files::Disk;
 use crate::register::Register;
 
 pub const DEMO: Command = Command {
@@ -78,15 +79,15 @@ fn words(command: &str, folder: &Path) -> Vec<OsString> {
     command.split(' ').map(word).collect()
 }
 
-fn shown(command: &str, folder: &Path) -> Answer {
-    let answer = super::run(&words(command, folder))?.replace(&format!("{}/", folder.display()), "");
+fn shown(disk: &dyn Disk, command: &str, folder: &Path) -> Answer {
+    let answer = super::run(disk, &words(command, folder))?.replace(&format!("{}/", folder.display()), "");
     Ok(format!("$ graftspindle {}\n{answer}", command.replace(" /", " ")))
 }
 
-fn tell(folder: &Path) -> Answer {
+fn tell(disk: &dyn Disk, folder: &Path) -> Answer {
     let mut told = String::new();
     for (heading, commands) in STORY {
-        let shown: Result<String, Refusal> = commands.iter().map(|command| shown(command, folder)).collect();
+        let shown: Result<String, Refusal> = commands.iter().map(|command| shown(disk, command, folder)).collect();
         told += &format!("{heading}:\n{}\n", shown?);
     }
     Ok(told)
@@ -96,8 +97,8 @@ fn held_for<'a>(actor: &'a str, register: &'a Register) -> Vec<&'a [u8]> {
     register.records().filter(|slot| texts::actor(slot) == actor).collect()
 }
 
-fn compare(folder: &Path) -> Answer {
-    let (register, copy) = (look(&folder.join("register"))?, look(&folder.join("copy"))?);
+fn compare(disk: &dyn Disk, folder: &Path) -> Answer {
+    let (register, copy) = (look(disk, &folder.join("register"))?, look(disk, &folder.join("copy"))?);
     let (held, own) = (held_for("900123", &register), copy.records().collect::<Vec<_>>());
     if held != own {
         return Err(Refusal::Fault("the copy differs from the records held for 900123".to_string()));
@@ -107,11 +108,11 @@ fn compare(folder: &Path) -> Answer {
     Ok(format!("{equal}: {count} records, the same bytes in the same order.\n"))
 }
 
-fn play(folder: &Path) -> Answer {
+fn play(disk: &dyn Disk, folder: &Path) -> Answer {
     for (name, bytes) in FILES {
         fs::write(folder.join(name), bytes)?;
     }
-    Ok(tell(folder)? + &compare(folder)?)
+    Ok(tell(disk, folder)? + &compare(disk, folder)?)
 }
 
 /// Without links, as the commands name files.
@@ -120,13 +121,13 @@ fn made(folder: PathBuf) -> Result<PathBuf, Refusal> {
     Ok(folder.canonicalize()?)
 }
 
-fn run(given: &Arguments) -> Answer {
+fn run(disk: &dyn Disk, given: &Arguments) -> Answer {
     if let Some(folder) = given.rest_if_given()? {
-        return play(&made(folder.into())?);
+        return play(disk, &made(folder.into())?);
     }
     let name = format!("graftspindle-demo-{}", std::process::id());
     let folder = made(std::env::temp_dir().join(name))?;
-    let told = play(&folder);
+    let told = play(disk, &folder);
     fs::remove_dir_all(&folder)?;
     told
 }

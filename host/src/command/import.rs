@@ -3,8 +3,8 @@
 use std::path::Path;
 
 use super::arguments::Arguments;
-use super::{clock, mode, read, Answer, Command, Refusal};
-use crate::files::{Held, Place, Real};
+use super::{clock, mode, Answer, Command, Refusal};
+use crate::files::{Disk, Held, Place};
 use crate::register::{Import, Register};
 
 pub const IMPORT: Command = Command {
@@ -30,13 +30,13 @@ fn place_of_hgc(given: &Arguments, hgv: &Path) -> Result<Place, Refusal> {
     Ok(hgc)
 }
 
-fn run(given: &Arguments) -> Answer {
+fn run(disk: &dyn Disk, given: &Arguments) -> Answer {
     let [hgv] = given.rest()?;
     let mode = mode(given)?;
     let place = Place::of_known(given.path("register")?)?;
     let hgc_place = place_of_hgc(given, Path::new(hgv))?;
-    let (rows, hgv) = (read(given.path("issuers")?)?, read(Path::new(hgv))?);
-    let held = Held::take(&Real, place)?;
+    let (rows, hgv) = (disk.read(given.path("issuers")?)?, disk.read(Path::new(hgv))?);
+    let held = Held::take(disk, place)?;
     let mut register = Register::from_bytes(held.read()?);
     // Only now: imports that waited for each other are received in the order in which they are imported.
     let reception = given.text_if_given("received").map_or_else(clock::now, String::into_bytes);

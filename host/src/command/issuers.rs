@@ -3,8 +3,8 @@
 use std::path::Path;
 
 use super::arguments::Arguments;
-use super::{read, Answer, Command, Refusal};
-use crate::files::{self, Real};
+use super::{Answer, Command, Refusal};
+use crate::files::{self, Disk};
 use crate::{ait, register};
 
 pub const FROM_AIT: Command = Command {
@@ -18,11 +18,11 @@ once. A file that is at ROWS is replaced.
     run,
 };
 
-fn run(given: &Arguments) -> Answer {
+fn run(disk: &dyn Disk, given: &Arguments) -> Answer {
     let [path] = given.rest()?;
-    let rows = ait::rows(&read(Path::new(path))?);
+    let rows = ait::rows(&disk.read(Path::new(path))?);
     let rows = rows.map_err(|fault| Refusal::Fault(format!("{}: {fault}", Path::new(path).display())))?;
     register::rows_in_form(&rows.concat())?;
-    files::write_alone(&Real, given.path("issuers")?, &rows.concat())?;
+    files::write_alone(disk, given.path("issuers")?, &rows.concat())?;
     Ok(format!("{} rows\n", rows.len()))
 }

@@ -2,6 +2,7 @@
 
 use super::arguments::Arguments;
 use super::{clock, look, texts, Answer, Command};
+use crate::files::Disk;
 use crate::register::Register;
 
 pub const PAN: Command = Command {
@@ -32,16 +33,16 @@ fn shown(register: &Register, slot: &[u8]) -> String {
     format!("slot {place}: actor {actor}, PAN {pan}, plate {plate} {nationality}, end {end}\n{text}\n")
 }
 
-fn by_pan(given: &Arguments) -> Answer {
+fn by_pan(disk: &dyn Disk, given: &Arguments) -> Answer {
     let [pan] = given.rest()?;
-    let register = look(given.path("register")?)?;
+    let register = look(disk, given.path("register")?)?;
     let slot = register.by_pan(&texts::field(&pan.to_string_lossy(), 19)?)?;
     Ok(shown(&register, slot))
 }
 
-fn by_plate(given: &Arguments) -> Answer {
+fn by_plate(disk: &dyn Disk, given: &Arguments) -> Answer {
     let [plate, nationality] = given.rest()?;
-    let register = look(given.path("register")?)?;
+    let register = look(disk, given.path("register")?)?;
     let time = given.text_if_given("at").map_or_else(clock::now, String::into_bytes);
     let plate = texts::field(&plate.to_string_lossy(), 10)?;
     let nationality = texts::field(&nationality.to_string_lossy(), 3)?;

@@ -3,7 +3,8 @@
 use std::path::Path;
 
 use super::arguments::Arguments;
-use super::{read, texts, Answer, Command};
+use super::{texts, Answer, Command};
+use crate::files::Disk;
 use crate::{register, words};
 
 pub const READ_BACK: Command = Command {
@@ -24,9 +25,9 @@ fn shown(number: usize, line: &[u8], verdict: u8) -> String {
     format!("{number:>5}  {pan:<19}  {plate:<10}  {verdict}\n")
 }
 
-fn run(given: &Arguments) -> Answer {
+fn run(disk: &dyn Disk, given: &Arguments) -> Answer {
     let [hgv, hgc] = given.rest()?;
-    let (hgv, hgc) = (read(Path::new(hgv))?, read(Path::new(hgc))?);
+    let (hgv, hgc) = (disk.read(Path::new(hgv))?, disk.read(Path::new(hgc))?);
     let (counts, verdicts) = register::read_back(&hgv, &hgc)?;
     let told = lines(&hgv).zip(&verdicts).enumerate();
     let told: String = told.map(|(i, (line, &verdict))| shown(i + 1, line, verdict)).collect();

@@ -5,7 +5,7 @@ use std::path::Path;
 
 use super::arguments::Arguments;
 use super::{clock, look, texts, Answer, Command, Refusal};
-use crate::files::{Held, Place, Real};
+use crate::files::{Disk, Held, Place};
 use crate::register::{Number, Register};
 
 pub const NEW: Command = Command {
@@ -36,7 +36,7 @@ fn slots(given: &Arguments) -> Result<usize, Refusal> {
     slots.ok_or_else(|| Refusal::Fault(format!("--slots {text} is not a number of slots")))
 }
 
-fn new(given: &Arguments) -> Answer {
+fn new(disk: &dyn Disk, given: &Arguments) -> Answer {
     let [path] = given.rest()?;
     let slots = slots(given)?;
     let register = Register::free(slots);
@@ -46,7 +46,7 @@ fn new(given: &Arguments) -> Answer {
     if place.path().exists() {
         return Err(there());
     }
-    let held = Held::take(&Real, place.clone())?;
+    let held = Held::take(disk, place.clone())?;
     if held.is_there()? {
         return Err(there());
     }
@@ -64,9 +64,9 @@ fn is_active(slot: &[u8], time: &[u8]) -> Result<bool, Number> {
     }
 }
 
-fn show(given: &Arguments) -> Answer {
+fn show(disk: &dyn Disk, given: &Arguments) -> Answer {
     let [path] = given.rest()?;
-    let register = look(Path::new(path))?;
+    let register = look(disk, Path::new(path))?;
     register.in_order()?;
     let time = given.text_if_given("at").map_or_else(clock::now, String::into_bytes);
     let mut actors: BTreeMap<String, (u64, u64)> = BTreeMap::new();

@@ -3,8 +3,8 @@
 use std::path::Path;
 
 use super::arguments::Arguments;
-use super::{mode, read, Answer, Command};
-use crate::files::{Held, Place, Real};
+use super::{mode, Answer, Command};
+use crate::files::{Disk, Held, Place};
 use crate::register::Register;
 
 pub const UPDATE: Command = Command {
@@ -18,11 +18,11 @@ the list was imported in. Killed at any moment, C is as before or as after.
     run,
 };
 
-fn run(given: &Arguments) -> Answer {
+fn run(disk: &dyn Disk, given: &Arguments) -> Answer {
     let [hgv, hgc] = given.rest()?;
     let mode = mode(given)?;
-    let (hgv, hgc) = (read(Path::new(hgv))?, read(Path::new(hgc))?);
-    let held = Held::take(&Real, Place::of_known(given.path("copy")?)?)?;
+    let (hgv, hgc) = (disk.read(Path::new(hgv))?, disk.read(Path::new(hgc))?);
+    let held = Held::take(disk, Place::of_known(given.path("copy")?)?)?;
     let mut copy = Register::from_bytes(held.read()?);
     let counts = copy.update(mode, &hgv, &hgc)?;
     held.replace(copy.bytes(), None)?;
