@@ -63,15 +63,23 @@ fn undo(disk: &dyn Disk, register: &Place) -> io::Result<()> {
 }
 
 fn remove(disk: &dyn Disk, path: &Path) -> io::Result<()> {
+    let folder = folder_of(path);
     if disk.exists(path)? {
         disk.remove(path)?;
+        return disk.sync_folder(folder);
     }
-    sync_folder_of(disk, path)
+    // Removed before, perhaps by one who was stopped here; or never made, in a folder that takes no file and may not sync.
+    let _ = disk.sync_folder(folder);
+    Ok(())
+}
+
+fn folder_of(path: &Path) -> &Path {
+    path.parent().unwrap_or(Path::new("/"))
 }
 
 /// A folder that is gone has nothing to sync.
-fn sync_folder_of(disk: &dyn Disk, path: &Path) -> io::Result<()> {
-    match disk.sync_folder(path.parent().unwrap_or(Path::new("/"))) {
+fn sync_if_there(disk: &dyn Disk, folder: &Path) -> io::Result<()> {
+    match disk.sync_folder(folder) {
         Err(gone) if gone.kind() == io::ErrorKind::NotFound => Ok(()),
         done => done,
     }
@@ -88,6 +96,6 @@ fn finish(disk: &dyn Disk, register: &Place) -> io::Result<()> {
     if disk.exists(&note.pending)? {
         disk.rename(&note.pending, &note.hgc)?;
     }
-    sync_folder_of(disk, &note.hgc)?;
+    sync_if_there(disk, folder_of(&note.hgc))?;
     remove(disk, &register.note())
 }

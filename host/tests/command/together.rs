@@ -49,7 +49,7 @@ fn one_hgc_for_two_registers() {
     let line = IMPORT.replace("@register", "@other");
     let start = |line: &str| Command::new(program()).args(words(&folder, line)).stdout(Stdio::null()).spawn();
     let running = [start(IMPORT), start(&line)].map(|child| child.expect("it starts"));
-    running.map(|mut child| assert!(child.wait().expect("it ends").success()));
+    running.into_iter().for_each(|mut child| assert!(child.wait().expect("it ends").success()));
     let new = imported();
     assert_eq!((folder.read("register"), folder.read("other")), (new.0.clone(), new.0));
     assert_eq!(folder.read_if_there("hgc"), new.1);
