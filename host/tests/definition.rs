@@ -2,6 +2,8 @@
 
 #[path = "definition/agreement.rs"]
 mod agreement;
+#[path = "definition/boundary.rs"]
+mod boundary;
 #[path = "definition/common.rs"]
 mod common;
 #[path = "definition/exhaustive.rs"]
