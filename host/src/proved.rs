@@ -3,10 +3,12 @@
 //! What a call does is proved for every slice of every length. What nothing checks is the boundary itself:
 //! - these declarations are compared with `crates/service/src/lib.rt` by no tool: a name, an order or a width that
 //!   differs is found by tests only;
-//! - a slice crosses as a pointer and a length, a `&mut u64` as a pointer, and the library believes them;
-//! - blocks that it may write must overlap no other block.
+//! - a slice crosses as a pointer and a length of 64 bits, a `&mut u64` as a pointer, and the library believes them;
+//! - blocks that it may write must overlap no other block;
+//! - a call uses the caller's stack, some tens of kilobytes of it, and does not ask whether they are there.
 //!
-//! Here each pair comes from one slice and no two mutable borrows are alike, so the last two hold for every safe caller.
+//! Here each pair comes from one slice and no two mutable borrows are alike, so the second and third hold for every safe
+//! caller. The library keeps nothing between calls.
 
 #[cfg(feature = "provider")]
 mod provider;
@@ -14,6 +16,7 @@ mod provider;
 use std::ops::Range;
 
 use crate::answers::Imported;
+// Until the library has them: these two are NOT proved.
 #[cfg(not(feature = "provider"))]
 pub use crate::plain::{read_back, update};
 #[cfg(feature = "provider")]

@@ -8,6 +8,8 @@ mod common;
 mod demo;
 #[path = "command/faults.rs"]
 mod faults;
+#[path = "command/hooked.rs"]
+mod hooked;
 #[path = "command/issuers.rs"]
 mod issuers;
 #[path = "command/killed.rs"]

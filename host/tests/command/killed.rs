@@ -1,12 +1,12 @@
 //! A real process that imports, killed before each of its steps on files.
 
 use crate::common::*;
+use crate::hooked::Hooked;
 use graftspindle_host::command;
-use graftspindle_host::files::{Disk, Real};
+use graftspindle_host::files::Disk;
 use std::cell::Cell;
 use std::ffi::OsString;
-use std::io::{self, BufRead, BufReader};
-use std::path::Path;
+use std::io::{BufRead, BufReader};
 use std::process::{Child, Command, Stdio};
 use std::time::Duration;
 
@@ -15,44 +15,16 @@ const LINE: &str = "GRAFTSPINDLE_TEST_LINE";
 const WAITING: &str = "waiting to be killed";
 
 /// A disk that says so before one of its steps and then waits.
-struct Waiting(Cell<usize>);
-
-impl Waiting {
-    fn step(&self) {
-        if self.0.get() == 0 {
+fn waiting(step: usize) -> impl Disk {
+    let left = Cell::new(step);
+    Hooked(move || {
+        if left.get() == 0 {
             println!("\n{WAITING}");
             std::thread::sleep(Duration::from_secs(60));
         }
-        self.0.set(self.0.get().wrapping_sub(1));
-    }
-}
-
-impl Disk for Waiting {
-    fn read(&self, path: &Path) -> io::Result<Vec<u8>> {
-        self.step();
-        Real.read(path)
-    }
-    fn exists(&self, path: &Path) -> io::Result<bool> {
-        Real.exists(path)
-    }
-    fn write(&self, path: &Path, bytes: &[u8], like: &Path) -> io::Result<()> {
-        self.step();
-        Real.write(path, &bytes[..bytes.len() / 3], like)?;
-        self.step();
-        Real.write(path, bytes, like)
-    }
-    fn rename(&self, from: &Path, to: &Path) -> io::Result<()> {
-        self.step();
-        Real.rename(from, to)
-    }
-    fn remove(&self, path: &Path) -> io::Result<()> {
-        self.step();
-        Real.remove(path)
-    }
-    fn sync_folder(&self, folder: &Path) -> io::Result<()> {
-        self.step();
-        Real.sync_folder(folder)
-    }
+        left.set(left.get().wrapping_sub(1));
+        Ok(())
+    })
 }
 
 /// Not a test by itself: the process that is killed. Without its step it has nothing to do.
@@ -62,8 +34,7 @@ fn child() {
         return;
     };
     let given: Vec<OsString> = line.split(' ').map(OsString::from).collect();
-    let disk = Waiting(step.parse::<usize>().expect("a number").into());
-    command::run(&disk, &given).expect("an import that is not killed is done");
+    command::run(&waiting(step.parse().expect("a number")), &given).expect("an import that is not killed is done");
 }
 
 fn start(folder: &Folder, step: usize) -> Child {

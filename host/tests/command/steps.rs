@@ -1,13 +1,12 @@
 //! A disk that stops or fails at one of its steps; the command on it; and the next start on a sound one.
 
 use crate::common::*;
+use crate::hooked::Hooked;
 use graftspindle_host::command;
-use graftspindle_host::files::{Disk, Real};
+use graftspindle_host::files::Disk;
 use std::cell::Cell;
 use std::ffi::OsString;
-use std::fs;
 use std::io;
-use std::path::Path;
 
 /// What happens at the step.
 #[derive(Clone, Copy, PartialEq)]
@@ -18,56 +17,19 @@ enum Fate {
     Full,
 }
 
-struct Faulty {
-    left: Cell<usize>,
-    fate: Fate,
-}
-
-impl Faulty {
-    fn fault() -> io::Error {
-        io::Error::from(io::ErrorKind::StorageFull)
-    }
-
-    fn step(&self) -> io::Result<()> {
-        match (self.left.get(), self.fate) {
-            (0, Fate::Stop) => Err(Faulty::fault()),
-            (0, Fate::Full) => {
-                self.left.set(usize::MAX);
-                Err(Faulty::fault())
-            }
-            (left, _) => {
-                self.left.set(left - 1);
-                Ok(())
-            }
+/// A disk on which so many steps go well.
+fn faulty(steps: usize, fate: Fate) -> impl Disk {
+    let left = Cell::new(steps);
+    Hooked(move || {
+        if left.get() > 0 {
+            left.set(left.get() - 1);
+            return Ok(());
         }
-    }
-}
-
-impl Disk for Faulty {
-    fn read(&self, path: &Path) -> io::Result<Vec<u8>> {
-        Real.read(path)
-    }
-    fn exists(&self, path: &Path) -> io::Result<bool> {
-        Real.exists(path)
-    }
-    fn write(&self, path: &Path, bytes: &[u8], like: &Path) -> io::Result<()> {
-        self.step()?;
-        fs::write(path, &bytes[..bytes.len() / 2])?;
-        self.step()?;
-        Real.write(path, bytes, like)
-    }
-    fn rename(&self, from: &Path, to: &Path) -> io::Result<()> {
-        self.step()?;
-        Real.rename(from, to)
-    }
-    fn remove(&self, path: &Path) -> io::Result<()> {
-        self.step()?;
-        Real.remove(path)
-    }
-    fn sync_folder(&self, folder: &Path) -> io::Result<()> {
-        self.step()?;
-        Real.sync_folder(folder)
-    }
+        if fate == Fate::Full {
+            left.set(usize::MAX);
+        }
+        Err(io::Error::from(io::ErrorKind::StorageFull))
+    })
 }
 
 fn run(disk: &dyn Disk, folder: &Folder, line: &str) -> Result<String, String> {
@@ -78,7 +40,7 @@ fn run(disk: &dyn Disk, folder: &Folder, line: &str) -> Result<String, String> {
 /// The command stopped or failing at each step; `after` looks at the folder. How many steps there are.
 fn at_each_step(fate: Fate, line: &str, after: impl Fn(&Folder, Result<String, String>)) -> usize {
     for step in 0..50 {
-        let (folder, disk) = (ready(), Faulty { left: step.into(), fate });
+        let (folder, disk) = (ready(), faulty(step, fate));
         let answer = run(&disk, &folder, line);
         let done = answer.is_ok();
         after(&folder, answer);
@@ -155,7 +117,7 @@ fn update_of_a_copy() {
     let after = folder.all();
     for fate in [Fate::Stop, Fate::Full] {
         for step in 0..8 {
-            let (folder, disk) = (prepared(), Faulty { left: step.into(), fate });
+            let (folder, disk) = (prepared(), faulty(step, fate));
             let done = run(&disk, &folder, line).is_ok();
             assert_eq!(graftspindle(&folder, STARTS[0]).status, 0);
             let found = folder.all();

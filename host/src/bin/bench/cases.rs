@@ -134,23 +134,22 @@ fn read_backs(size: usize) -> Vec<Case> {
 }
 
 fn updates(size: usize) -> Vec<Case> {
-    let mut cases = Vec::new();
-    for (kind, hgv, rejected) in files(size) {
-        let hgc = confirmed(size, &hgv);
-        for (copy, block) in [("free", free(size)), ("full", full(size))] {
-            for mode in [1, 2] {
-                cases.push(Case {
-                    name: format!("update, {kind}, {copy} copy, mode {mode}"),
-                    mode,
-                    written: vec![block.clone()],
-                    read: vec![hgv.clone(), hgc.clone()],
-                    call: update,
-                    expected: [0, size as u64 - rejected, rejected, 0],
-                });
-            }
-        }
-    }
-    cases
+    let [taken, mixed, rejected] = files(size);
+    let case = |(kind, hgv, rejected): &(&str, Vec<u8>, u64), copy: &str, block: Vec<u8>, mode| Case {
+        name: format!("update, {kind}, {copy} copy, mode {mode}"),
+        mode,
+        written: vec![block],
+        read: vec![hgv.clone(), confirmed(size, hgv)],
+        call: update,
+        expected: [0, size as u64 - rejected, *rejected, 0],
+    };
+    vec![
+        case(&taken, "free", free(size), 1),
+        case(&taken, "full", full(size), 1),
+        case(&taken, "full", full(size), 2),
+        case(&mixed, "full", full(size), 1),
+        case(&rejected, "full", full(size), 2),
+    ]
 }
 
 pub fn all(size: usize) -> Vec<Case> {
