@@ -7,7 +7,14 @@ use std::io;
 use super::disk::told;
 use super::place::Place;
 
-pub struct Lock(#[allow(dead_code)] File);
+pub struct Lock(File);
+
+impl Drop for Lock {
+    /// Not left to the closing of the file: a process that this one is just starting has it open for a moment too.
+    fn drop(&mut self) {
+        let _ = self.0.unlock();
+    }
+}
 
 fn file(place: &Place) -> io::Result<File> {
     let path = place.lock();
