@@ -75,3 +75,15 @@ fn update() {
     assert_eq!((done.number, done.taken, done.rejected), (0, 3, 0));
     assert!(copy == imported());
 }
+
+/// The largest import, on a thread with a stack of 64 KiB.
+#[test]
+fn small_stack() {
+    let import = || {
+        let (mut register, mut hgc) = (vec![0; 8192 * 128], vec![0; 174]);
+        let rows = sample::row();
+        proved::import(2, sample::RECEPTION, &mut register, &rows, &sample::hgv(8192), &mut hgc).taken
+    };
+    let thread = std::thread::Builder::new().stack_size(64 * 1024).spawn(import);
+    assert_eq!(thread.expect("a thread").join().expect("it ends"), 8192);
+}
