@@ -89,7 +89,7 @@ fn reading_back() {
 
 #[test]
 fn updates() {
-    let mut numbers = Counts::new();
+    let (mut numbers, mut alone) = (Counts::new(), Counts::new());
     for seed in 0..SEEDS {
         let p = pair(seed);
         let (answer, _) = of_all(|engine| {
@@ -99,9 +99,13 @@ fn updates() {
             (answer, copy)
         });
         count(&mut numbers, answer.number);
+        if let (52, [clause]) = (answer.number, &clauses_of_52(&p.hgv, &p.hgc)[..]) {
+            count(&mut alone, *clause);
+        }
     }
     let expected = vec![0, 21, 23, 25, 26, 27, 28, 29, 30, 31, 32, 33, 51, 52];
     assert_reached("update's numbers", &numbers, expected);
+    assert_reached("update's clauses of 52, alone", &alone, CLAUSES.to_vec());
 }
 
 /// The used slots of an actor, in order, then free ones: what his copy must be.
