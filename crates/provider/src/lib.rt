@@ -16,8 +16,9 @@ ghost use Rattle.pairing.specs.Telling.{toldAt};
 ghost use Rattle.pairing.specs.Backwards.{paired};
 ghost use Rattle.receipts.specs.Receipt.{answersIn, answersOf, reasonHolds, textsOf, copiesOf, marksOf, receiptHolds};
 ghost use Rattle.provider.specs.Answer.{refusal, counted};
-ghost use Rattle.provider.specs.ReadBack.{reasonsOf, fileStops, readAnswer, verdictsAfter};
-ghost use Rattle.provider.specs.Update.{ownHolds, copyStops, updateAnswer, copyAfter};
+ghost use Rattle.provider.specs.ReadBack.{reasonsOf, fileStops};
+ghost use Rattle.provider.specs.Update.{ownHolds, copyStops};
+ghost use Rattle.provider.specs.Outcomes.{ReadOutcome, UpdateOutcome};
 
 const SLOT: usize = 128;
 
@@ -117,7 +118,7 @@ fn tell(hgc: &[u8], marks: &[u8], verdicts: &mut [u8])
 // What is read beside an HGV whose form is right; `marks` has a byte for each of its lines.
 fn read_lines(hgv: &[u8], hgc: &[u8], verdicts: &mut [u8], marks: &mut [u8]) -> Counted
     requires { ⌜ (first (fileStops (now hgv)) ≡ 0) × (length (now marks) ≡ linesIn (now hgv)) ⌝ }
-    ensures { λ r. ⌜ (r ≡ readAnswer (now (hgv .entry)) (now (hgc .entry)) (now (verdicts .entry))) × (now (verdicts .exit) ≡ verdictsAfter (now (hgv .entry)) (now (hgc .entry)) (now (verdicts .entry))) ⌝ }
+    ensures { λ r. ⌜ ReadOutcome (now (hgv .entry)) (now (hgc .entry)) (now (verdicts .entry)) r (now (verdicts .exit)) ⌝ }
 {
     if !is_receipt(hgv, hgc, marks) {
         return refused(52);
@@ -132,7 +133,7 @@ fn read_lines(hgv: &[u8], hgc: &[u8], verdicts: &mut [u8], marks: &mut [u8]) -> 
 // An HGC read back: 0 or a stop, and how many lines were taken and rejected; a byte for each HGV line goes into `verdicts`, 0
 // where it was taken, else the reason.
 pub fn read_back(hgv: &[u8], hgc: &[u8], verdicts: &mut [u8]) -> Counted
-    ensures { λ r. ⌜ (r ≡ readAnswer (now (hgv .entry)) (now (hgc .entry)) (now (verdicts .entry))) × (now (verdicts .exit) ≡ verdictsAfter (now (hgv .entry)) (now (hgc .entry)) (now (verdicts .entry))) ⌝ }
+    ensures { λ r. ⌜ ReadOutcome (now (hgv .entry)) (now (hgc .entry)) (now (verdicts .entry)) r (now (verdicts .exit)) ⌝ }
 {
     let stop = file_stop(hgv);
     if stop != 0 {
@@ -171,7 +172,7 @@ fn copy_stop(mode: u64, copy: &[u8], hgv: &[u8]) -> u64
 // The update by an HGV whose form is right; `marks` has a byte for each of its lines.
 fn update_lines(mode: u64, copy: &mut [u8], hgv: &[u8], hgc: &[u8], marks: &mut [u8]) -> Counted
     requires { ⌜ (first (copyStops mode (now copy) (now hgv)) ≡ 0) × (length (now marks) ≡ linesIn (now hgv)) ⌝ }
-    ensures { λ r. ⌜ (r ≡ updateAnswer mode (now (copy .entry)) (now (hgv .entry)) (now (hgc .entry))) × (now (copy .exit) ≡ copyAfter mode (now (copy .entry)) (now (hgv .entry)) (now (hgc .entry))) ⌝ }
+    ensures { λ r. ⌜ UpdateOutcome mode (now (copy .entry)) (now (hgv .entry)) (now (hgc .entry)) r (now (copy .exit)) ⌝ }
 {
     if !is_receipt(hgv, hgc, marks) {
         return refused(52);
@@ -189,7 +190,7 @@ fn update_lines(mode: u64, copy: &mut [u8], hgv: &[u8], hgc: &[u8], marks: &mut 
 
 // The update of a provider's copy by an import of his: 0 or a stop, and how many lines were taken and rejected.
 pub fn update(mode: u64, copy: &mut [u8], hgv: &[u8], hgc: &[u8]) -> Counted
-    ensures { λ r. ⌜ (r ≡ updateAnswer mode (now (copy .entry)) (now (hgv .entry)) (now (hgc .entry))) × (now (copy .exit) ≡ copyAfter mode (now (copy .entry)) (now (hgv .entry)) (now (hgc .entry))) ⌝ }
+    ensures { λ r. ⌜ UpdateOutcome mode (now (copy .entry)) (now (hgv .entry)) (now (hgc .entry)) r (now (copy .exit)) ⌝ }
 {
     let stop = copy_stop(mode, copy, hgv);
     if stop != 0 {
