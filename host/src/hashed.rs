@@ -48,20 +48,6 @@ fn after_mode_1(register: &[u8], taken: &[&[u8]], reception: &[u8]) -> Vec<Vec<u
     after
 }
 
-fn after(
-    mode: u64,
-    register: &[u8],
-    sender: &[u8],
-    taken: &[&[u8]],
-    reception: &[u8],
-) -> Vec<Vec<u8>> {
-    if mode == 1 {
-        after_mode_1(register, taken, reception)
-    } else {
-        register::after_mode_2(register, sender, taken, reception)
-    }
-}
-
 pub fn import(
     mode: u64,
     reception: &[u8],
@@ -77,7 +63,7 @@ pub fn import(
     let (lines, sender) = (hgv::lines(hgv), hgv::sender(hgv));
     let verdicts = verdicts(&lines, sender, rows, &register::used_slots(register));
     let taken = verdict::taken_lines(&lines, &verdicts);
-    let after = after(mode, register, sender, &taken, reception);
+    let after = plain::after(mode, register, sender, &taken, reception, after_mode_1);
     plain::finish_import(reception, register, hgv, hgc, &verdicts, &after)
 }
 
@@ -166,6 +152,7 @@ pub fn update(mode: u64, copy: &mut [u8], hgv: &[u8], hgc: &[u8]) -> Counted {
         return plain::count_stopped(52);
     };
     let taken = pairing::marked(&hgv::lines(hgv), &marks, true);
-    let after = after(mode, copy, hgv::sender(hgv), &taken, confirmation::reception(hgc));
+    let reception = confirmation::reception(hgc);
+    let after = plain::after(mode, copy, hgv::sender(hgv), &taken, reception, after_mode_1);
     plain::finish_update(copy, &marks, &after)
 }

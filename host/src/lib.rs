@@ -1,12 +1,22 @@
-//! The proved account register, called from Rust, and the same written from the definition by another hand, to compare it
-//! with: `plain` follows the definition sentence by sentence, `hashed` answers the same with hashed searches, and
-//! `generate` makes inputs from a seed, right ones and damaged ones.
+//! The proved account register, called from Rust: `proved` is the boundary, `register` its safe form, `words` what its
+//! numbers mean, `files` how a register and its HGC are kept on disk, `command` the command line.
+//!
+//! Beside it the same written from the definition by another hand, to compare it with: `plain` follows the definition
+//! sentence by sentence, `hashed` answers the same with hashed searches, `engines` puts all under one form, and `generate`
+//! and `sample` make inputs, right ones and damaged ones.
 
-#[forbid(unsafe_code)]
+#![deny(unsafe_code)]
+
+pub mod ait;
+pub mod answers;
+pub mod command;
+pub mod engines;
+pub mod files;
 pub mod generate;
-#[forbid(unsafe_code)]
 pub mod hashed;
-#[forbid(unsafe_code)]
 pub mod plain;
+#[allow(unsafe_code)]
 pub mod proved;
+pub mod register;
 pub mod sample;
+pub mod words;

@@ -11,24 +11,10 @@ pub mod words;
 
 use std::ops::Range;
 
+pub use crate::answers::{Counted, Imported};
 pub use pairing::{Clause, CLAUSES};
 use register::SLOT;
 use words::is_real_time;
-
-#[derive(Debug, Clone, Copy, PartialEq, Eq)]
-pub struct Imported {
-    pub number: u64,
-    pub taken: u64,
-    pub rejected: u64,
-    pub length: u64,
-}
-
-#[derive(Debug, Clone, Copy, PartialEq, Eq)]
-pub struct Counted {
-    pub number: u64,
-    pub taken: u64,
-    pub rejected: u64,
-}
 
 /// A stop returns its number and zero for the rest.
 pub fn import_stopped(number: u64) -> Imported {
@@ -89,16 +75,20 @@ fn import_stop_25_to_32(mode: u64, rows: &[u8], hgv: &[u8]) -> u64 {
     hgv::stop_30_to_32(hgv)
 }
 
+/// Mode 1, another search that differs.
+pub type AfterMode1 = fn(&[u8], &[&[u8]], &[u8]) -> Vec<Vec<u8>>;
+
 /// What the used slots are after taken lines of a sender.
-fn after(
+pub fn after(
     mode: u64,
     register: &[u8],
     sender: &[u8],
     taken: &[&[u8]],
     reception: &[u8],
+    after_mode_1: AfterMode1,
 ) -> Vec<Vec<u8>> {
     if mode == 1 {
-        register::after_mode_1(register, taken, reception)
+        after_mode_1(register, taken, reception)
     } else {
         register::after_mode_2(register, sender, taken, reception)
     }
@@ -131,7 +121,7 @@ pub fn import(
     let rules = verdict::rules(&lines, sender, rows, &register::used_slots(register));
     let verdicts = verdict::verdicts(&lines, &rules);
     let taken = verdict::taken_lines(&lines, &verdicts);
-    let after = after(mode, register, sender, &taken, reception);
+    let after = after(mode, register, sender, &taken, reception, register::after_mode_1);
     finish_import(reception, register, hgv, hgc, &verdicts, &after)
 }
 
@@ -320,7 +310,8 @@ pub fn update(mode: u64, copy: &mut [u8], hgv: &[u8], hgc: &[u8]) -> Counted {
     let lines = hgv::lines(hgv);
     let marks = pairing::taken_marks(&lines, &confirmation::lines(hgc));
     let taken = pairing::marked(&lines, &marks, true);
-    let after = after(mode, copy, hgv::sender(hgv), &taken, confirmation::reception(hgc));
+    let reception = confirmation::reception(hgc);
+    let after = after(mode, copy, hgv::sender(hgv), &taken, reception, register::after_mode_1);
     finish_update(copy, &marks, &after)
 }
 

@@ -3,21 +3,19 @@
 //! What a call does is proved for every slice of every length. What nothing checks is the boundary itself:
 //! - these declarations are compared with `crates/service/src/lib.rt` by no tool: a name, an order or a width that
 //!   differs is found by tests only;
-//! - a slice crosses as a pointer and a length, a `&mut u64` as a pointer, and the library believes them;
-//! - blocks that it may write must overlap no other block.
+//! - a slice crosses as a pointer and a length of 64 bits, a `&mut u64` as a pointer, and the library believes them;
+//! - blocks that it may write must overlap no other block;
+//! - a call uses the caller's stack and does not ask whether it is there: less than 64 KiB for the largest import.
 //!
-//! Here each pair comes from one slice and no two mutable borrows are alike, so the last two hold for every safe caller.
+//! Here each pair comes from one slice and no two mutable borrows are alike, so the second and third hold for every safe
+//! caller. The library keeps nothing between calls.
+
+mod provider;
 
 use std::ops::Range;
 
-/// The number of a stop, or 0, and what an import counts. All but the number are 0 at a stop.
-#[derive(Clone, Copy, Debug, Default, PartialEq, Eq)]
-pub struct Imported {
-    pub number: u64,
-    pub taken: u64,
-    pub rejected: u64,
-    pub length: u64,
-}
+use crate::answers::Imported;
+pub use provider::{read_back, update};
 
 extern "C" {
     fn graftspindle_import(

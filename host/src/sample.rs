@@ -1,4 +1,4 @@
-//! A file whose lines are all right, as long as is asked for.
+//! Files as long as is asked for, of lines that are right or that have one fault.
 
 pub const RECEPTION: &[u8] = b"20250310050000";
 const SENDER: &str = "900123";
@@ -38,16 +38,28 @@ pub fn line(i: usize) -> String {
     line
 }
 
-/// A file of so many lines, each with a PAN and a plate of its own.
-pub fn hgv(lines: usize) -> Vec<u8> {
+/// The same line with a fault that the last rule of a line's own finds (L10).
+pub fn faulty_line(i: usize) -> String {
+    line(i).replace("Euro6", "Euro9")
+}
+
+pub fn hgv_of(lines: &[String]) -> Vec<u8> {
     let mut file = format!(
-        "0{SENDER}000002HGV{SENDER}2025031001HGV{:016}{:014}{lines:015}20250310040000120001{:027}\n",
-        0, 0, 0
+        "0{SENDER}000002HGV{SENDER}2025031001HGV{:016}{:014}{:015}20250310040000120001{:027}\n",
+        0,
+        0,
+        lines.len(),
+        0
     );
     assert_eq!(file.len(), 128);
-    (0..lines).for_each(|i| file += &line(i));
+    file += &lines.concat();
     file += &format!("2{:062}\n", 0);
     file.into_bytes()
+}
+
+/// A file of so many lines, each with a PAN and a plate of its own.
+pub fn hgv(lines: usize) -> Vec<u8> {
+    hgv_of(&(0..lines).map(line).collect::<Vec<_>>())
 }
 
 /// The one issuer row that fits them.

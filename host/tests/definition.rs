@@ -1,7 +1,9 @@
-//! The definition's own cases and the comparison of both implementations.
+//! The definition's own cases and the comparison of all implementations.
 
 #[path = "definition/agreement.rs"]
 mod agreement;
+#[path = "definition/boundary.rs"]
+mod boundary;
 #[path = "definition/common.rs"]
 mod common;
 #[path = "definition/exhaustive.rs"]

@@ -10,7 +10,8 @@ ghost use Rattle.theory.specs.Count.{bump};
 ghost use Rattle.theory.specs.Parts.{chop};
 ghost use Rattle.theory.specs.Pick.{good, pick};
 ghost use Rattle.lines.specs.End.{recordOf};
-ghost use Rattle.register.specs.Register.{slotsIn, records, usedIn, inOrder};
+ghost use Rattle.hgv.specs.Layout.{lineLength};
+ghost use Rattle.register.specs.Register.{slotLength, slotsMost, slotsIn, records, usedIn, inOrder};
 ghost use Rattle.holdings.specs.Holdings.{stored, storedAll, others, holdings};
 ghost use Rattle.upkeep.specs.Stays.{Holds};
 ghost use Rattle.applying.specs.Fit.{Fit};
@@ -23,8 +24,8 @@ const SLOTS: usize = 8192;
 const FULL: u64 = 2;
 
 fn used_of<'a>(register: &'a [u8], used: usize) -> &'a [u8]
-    requires { ⌜ used * 128 ≤ length (now register) ⌝ }
-    ensures { λ r. ⌜ now r ≡ take (used * 128) (now (register .entry)) ⌝ }
+    requires { ⌜ used * slotLength ≤ length (now register) ⌝ }
+    ensures { λ r. ⌜ now r ≡ take (used * slotLength) (now (register .entry)) ⌝ }
 {
     let behind = used * SLOT;
     &register[..behind]
@@ -32,7 +33,7 @@ fn used_of<'a>(register: &'a [u8], used: usize) -> &'a [u8]
 
 // How many slots are used once slot i is: one more where that was the next free one.
 fn next_used(used: usize, i: usize) -> usize
-    requires { ⌜ used ≤ 8192 ⌝ }
+    requires { ⌜ used ≤ slotsMost ⌝ }
     ensures { λ r. ⌜ r ≡ bump (eqb i used) used ⌝ }
 {
     if i == used {
@@ -65,8 +66,8 @@ fn take_line(register: &mut [u8], used: usize, verdict: u8, line: &[u8], recepti
 
 // The taken lines, one after the other.
 fn store_all(register: &mut [u8], first: usize, lines: &[u8], verdicts: &[u8], reception: &[u8])
-    requires { ⌜ (length (now verdicts) * 128 ≤ length (now lines)) × Storing (now reception) (slotsIn (now register)) (storedAll (records (now register)) (map (recordOf (now reception)) (pick good (now verdicts) (chop 128 (length (now verdicts)) (now lines))))) (pick good (now verdicts) (chop 128 (length (now verdicts)) (now lines))) (now register) first ⌝ }
-    ensures { λ _. ⌜ Holds (slotsIn (now (register .entry))) (storedAll (records (now (register .entry))) (map (recordOf (now (reception .entry))) (pick good (now (verdicts .entry)) (chop 128 (length (now (verdicts .entry))) (now (lines .entry)))))) (now (register .exit)) ⌝ }
+    requires { ⌜ (length (now verdicts) * lineLength ≤ length (now lines)) × Storing (now reception) (slotsIn (now register)) (storedAll (records (now register)) (map (recordOf (now reception)) (pick good (now verdicts) (chop lineLength (length (now verdicts)) (now lines))))) (pick good (now verdicts) (chop lineLength (length (now verdicts)) (now lines))) (now register) first ⌝ }
+    ensures { λ _. ⌜ Holds (slotsIn (now (register .entry))) (storedAll (records (now (register .entry))) (map (recordOf (now (reception .entry))) (pick good (now (verdicts .entry)) (chop lineLength (length (now (verdicts .entry))) (now (lines .entry)))))) (now (register .exit)) ⌝ }
 {
     let mut used = first;
     let mut i: usize = 0;
@@ -91,8 +92,8 @@ fn mark_of(slot: &[u8], who: &[u8]) -> u8
 
 // A mark for each of the slots, as many as `marks` has room for.
 fn mark(register: &[u8], who: &[u8], marks: &mut [u8])
-    requires { ⌜ length (now marks) * 128 ≤ length (now register) ⌝ }
-    ensures { λ _. ⌜ now (marks .exit) ≡ map (markOf (now (who .entry))) (chop 128 (length (now (marks .entry))) (now (register .entry))) ⌝ }
+    requires { ⌜ length (now marks) * slotLength ≤ length (now register) ⌝ }
+    ensures { λ _. ⌜ now (marks .exit) ≡ map (markOf (now (who .entry))) (chop slotLength (length (now (marks .entry))) (now (register .entry))) ⌝ }
 {
     let mut i: usize = 0;
     while i < marks.len() {
@@ -142,8 +143,8 @@ pub fn apply(
     lines: &[u8],
     verdicts: &[u8],
 )
-    requires { ⌜ (length (now verdicts) * 128 ≤ length (now lines)) × ((inOrder (now register) ≡ true) × Fit mode (now who) (now reception) (slotsIn (now register)) (records (now register)) (pick good (now verdicts) (chop 128 (length (now verdicts)) (now lines)))) ⌝ }
-    ensures { λ _. ⌜ Holds (slotsIn (now (register .entry))) (holdings mode (now (who .entry)) (now (reception .entry)) (records (now (register .entry))) (pick good (now (verdicts .entry)) (chop 128 (length (now (verdicts .entry))) (now (lines .entry))))) (now (register .exit)) ⌝ }
+    requires { ⌜ (length (now verdicts) * lineLength ≤ length (now lines)) × ((inOrder (now register) ≡ true) × Fit mode (now who) (now reception) (slotsIn (now register)) (records (now register)) (pick good (now verdicts) (chop lineLength (length (now verdicts)) (now lines)))) ⌝ }
+    ensures { λ _. ⌜ Holds (slotsIn (now (register .entry))) (holdings mode (now (who .entry)) (now (reception .entry)) (records (now (register .entry))) (pick good (now (verdicts .entry)) (chop lineLength (length (now (verdicts .entry))) (now (lines .entry))))) (now (register .exit)) ⌝ }
 {
     let used = prepare(mode, register, who);
     store_all(register, used, lines, verdicts, reception);

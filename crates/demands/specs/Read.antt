@@ -14,12 +14,12 @@ use Rattle.hgv.specs.Layout.{linesIn}
 use Rattle.claims.specs.Claims.{receiverHolds}
 use Rattle.stops.specs.Stops.{addressed}
 use Rattle.stops.specs.Clear.{Clear}
-use Rattle.receipts.specs.Receipt.{receiptHolds, readVerdicts}
+use Rattle.receipts.specs.Receipt.{receiptHolds}
 use Rattle.importer.specs.Import.{judged, numberOf, success, answer, hgcAfter}
 use Rattle.importer.specs.Numbers.{accepted-clear, done-answer}
 use Rattle.provider.specs.declared.Counted.{Counted}
 use Rattle.provider.specs.Answer.{refusal, counted}
-use Rattle.provider.specs.ReadBack.{fileStops, blockStops, readNumber, readAnswer, toldTo, verdictsAfter}
+use Rattle.provider.specs.ReadBack.{readVerdicts, fileStops, blockStops, readNumber, readAnswer, toldTo, verdictsAfter}
 use Rattle.demands.specs.ReadBack.{receipt, read-back, count-taken, count-rejected, hgc-cut}
 
 -- the HGC as its provider gets it: the buffer after the import, cut at the length that the import returns

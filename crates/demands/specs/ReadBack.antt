@@ -38,27 +38,8 @@ use Rattle.pairing.specs.Pairing.{mark, firsts}
 use Rattle.pairing.specs.Laws.{pick-marked, told-is}
 use Rattle.pairing.specs.Firsts.{marks-is, left-is}
 use Rattle.pairing.specs.Faithful.{Judges, lines-first}
-use Rattle.receipts.specs.Receipt.{
-  answersIn,
-  answersOf,
-  receptionOf,
-  takenOf,
-  rejectedOf,
-  reasonOf,
-  reasonHolds,
-  textsOf,
-  marksOf,
-  takenBy,
-  copiesHold,
-  countsHold,
-  lineHolds,
-  takenHold,
-  saysHold,
-  linesHold,
-  receiptHolds,
-  reasonsOf,
-  readVerdicts,
-}
+use Rattle.receipts.specs.Receipt.{answersIn, answersOf, receptionOf, takenOf, rejectedOf, reasonOf, reasonHolds, textsOf, marksOf, takenBy, copiesHold, countsHold, lineHolds, takenHold, saysHold, linesHold, receiptHolds}
+use Rattle.provider.specs.ReadBack.{reasonsOf, readVerdicts}
 use Rattle.receipts.specs.Written.{
   same-texts,
   line-holds,

@@ -12,8 +12,8 @@ ghost use Rattle.theory.specs.Tally.{tally};
 ghost use Rattle.theory.specs.Join.{flat};
 ghost use Rattle.writing.specs.Put.{putField};
 ghost use Rattle.writing.specs.Laid.{Laid};
-ghost use Rattle.hgv.specs.Layout.{linesIn, lengthHolds};
-ghost use Rattle.hgc.specs.Confirmation.{confirmationLength, zeros, outcome, names, counts, answer, said, answers, foot, confirmation};
+ghost use Rattle.hgv.specs.Layout.{headerLength, lineLength, footerLength, linesMost, linesIn, lengthHolds};
+ghost use Rattle.hgc.specs.Confirmation.{headLength, answerLength, confirmationLength, zeros, outcome, names, counts, answer, said, answers, foot, confirmation};
 
 const HEADER: usize = 110;
 
@@ -43,7 +43,7 @@ fn put_zeros(hgc: &mut [u8], from: usize, n: usize)
 
 // The header up to reception.
 fn put_names(hgc: &mut [u8], reception: &[u8], hgv: &[u8])
-    requires { ⌜ (46 ≤ length (now hgc)) × ((length (now reception) ≡ 14) × (128 ≤ length (now hgv))) ⌝ }
+    requires { ⌜ (46 ≤ length (now hgc)) × ((length (now reception) ≡ 14) × (headerLength ≤ length (now hgv))) ⌝ }
     ensures { λ _. ⌜ now (hgc .exit) ≡ putField 1 (names (now (reception .entry)) (now (hgv .entry))) (now (hgc .entry)) ⌝ }
 {
     let sender = header::sender(hgv);
@@ -72,7 +72,7 @@ fn put_outcome(hgc: &mut [u8], rejected: u64)
 
 // The header from the counts on.
 fn put_counts(hgc: &mut [u8], taken: u64, rejected: u64)
-    requires { ⌜ 110 ≤ length (now hgc) ⌝ }
+    requires { ⌜ headLength ≤ length (now hgc) ⌝ }
     ensures { λ _. ⌜ now (hgc .exit) ≡ putField 47 (counts taken rejected) (now (hgc .entry)) ⌝ }
 {
     numbers::put_number(hgc, places::TAKEN_FROM, COUNT, taken);
@@ -84,7 +84,7 @@ fn put_counts(hgc: &mut [u8], taken: u64, rejected: u64)
 }
 
 fn put_answer(hgc: &mut [u8], from: usize, line: &[u8], reason: u8)
-    requires { ⌜ (1 ≤ from) × ((from - 1 + 130 ≤ length (now hgc)) × (127 ≤ length (now line))) ⌝ }
+    requires { ⌜ (1 ≤ from) × ((from - 1 + answerLength ≤ length (now hgc)) × (127 ≤ length (now line))) ⌝ }
     ensures { λ _. ⌜ now (hgc .exit) ≡ putField from (answer reason (now (line .entry))) (now (hgc .entry)) ⌝ }
 {
     let at = from - 1;
@@ -109,8 +109,8 @@ fn answer_line(hgc: &mut [u8], from: usize, line: &[u8], verdict: u8) -> usize
 
 // The answers behind the header; the position behind them.
 fn put_answers(hgc: &mut [u8], lines: &[u8], verdicts: &[u8]) -> usize
-    requires { ⌜ (length (now verdicts) * 128 ≤ length (now lines)) × (110 + tally bad (now verdicts) * 130 ≤ length (now hgc)) ⌝ }
-    ensures { λ r. ⌜ Laid 111 r (flat (answers (now (verdicts .entry)) (chop 128 (length (now (verdicts .entry))) (now (lines .entry))))) (now (hgc .entry)) (now (hgc .exit)) ⌝ }
+    requires { ⌜ (length (now verdicts) * lineLength ≤ length (now lines)) × (headLength + tally bad (now verdicts) * answerLength ≤ length (now hgc)) ⌝ }
+    ensures { λ r. ⌜ Laid 111 r (flat (answers (now (verdicts .entry)) (chop lineLength (length (now (verdicts .entry))) (now (lines .entry))))) (now (hgc .entry)) (now (hgc .exit)) ⌝ }
 {
     let mut behind = HEADER + 1;
     let mut i: usize = 0;
@@ -122,7 +122,7 @@ fn put_answers(hgc: &mut [u8], lines: &[u8], verdicts: &[u8]) -> usize
 }
 
 fn put_foot(hgc: &mut [u8], from: usize)
-    requires { ⌜ (1 ≤ from) × (from - 1 + 64 ≤ length (now hgc)) ⌝ }
+    requires { ⌜ (1 ≤ from) × (from - 1 + footerLength ≤ length (now hgc)) ⌝ }
     ensures { λ _. ⌜ now (hgc .exit) ≡ putField from foot (now (hgc .entry)) ⌝ }
 {
     let at = from - 1;
@@ -151,7 +151,7 @@ pub fn write(
 
 // How long the confirmation is.
 pub fn length_for(rejected: usize) -> usize
-    requires { ⌜ rejected ≤ 8192 ⌝ }
+    requires { ⌜ rejected ≤ linesMost ⌝ }
     ensures { λ r. ⌜ r ≡ confirmationLength rejected ⌝ }
 {
     HEADER + rejected * LINE + FOOTER

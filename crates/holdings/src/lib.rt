@@ -7,6 +7,7 @@ ghost use Rattle.theory.specs.Parts.{chop};
 ghost use Rattle.theory.specs.Count.{bump};
 ghost use Rattle.theory.specs.Keep.{sift};
 ghost use Rattle.theory.specs.Pick.{good, pick};
+ghost use Rattle.hgv.specs.Layout.{lineLength};
 ghost use Rattle.register.specs.Register.{records, slotsOf};
 ghost use Rattle.holdings.specs.Storing.{isNew};
 ghost use Rattle.holdings.specs.Room.{usedAfter};
@@ -33,8 +34,8 @@ fn count_line(held: &[u8], l: &[u8], verdict: u8) -> usize
 
 // How many of the taken lines are new to the slots.
 fn count_new(held: &[u8], lines: &[u8], verdicts: &[u8]) -> usize
-    requires { ⌜ length (now verdicts) * 128 ≤ length (now lines) ⌝ }
-    ensures { λ r. ⌜ (r ≡ length (sift (isNew (slotsOf (now (held .entry)))) (pick good (now (verdicts .entry)) (chop 128 (length (now (verdicts .entry))) (now (lines .entry)))))) × (r ≤ length (now (verdicts .entry))) ⌝ }
+    requires { ⌜ length (now verdicts) * lineLength ≤ length (now lines) ⌝ }
+    ensures { λ r. ⌜ (r ≡ length (sift (isNew (slotsOf (now (held .entry)))) (pick good (now (verdicts .entry)) (chop lineLength (length (now (verdicts .entry))) (now (lines .entry)))))) × (r ≤ length (now (verdicts .entry))) ⌝ }
 {
     let mut k: usize = 0;
     let mut i: usize = 0;
@@ -47,8 +48,8 @@ fn count_new(held: &[u8], lines: &[u8], verdicts: &[u8]) -> usize
 
 // How many slots are used when the taken lines have been applied.
 pub fn used_after(mode: u64, register: &[u8], who: &[u8], lines: &[u8], verdicts: &[u8]) -> usize
-    requires { ⌜ length (now verdicts) * 128 ≤ length (now lines) ⌝ }
-    ensures { λ r. ⌜ r ≡ usedAfter mode (now (who .entry)) (records (now (register .entry))) (pick good (now (verdicts .entry)) (chop 128 (length (now (verdicts .entry))) (now (lines .entry)))) ⌝ }
+    requires { ⌜ length (now verdicts) * lineLength ≤ length (now lines) ⌝ }
+    ensures { λ r. ⌜ r ≡ usedAfter mode (now (who .entry)) (records (now (register .entry))) (pick good (now (verdicts .entry)) (chop lineLength (length (now (verdicts .entry))) (now (lines .entry)))) ⌝ }
 {
     let held = register::used_part(register);
     let used = held.len() / SLOT;

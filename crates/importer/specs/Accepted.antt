@@ -1,26 +1,20 @@
 -- What a file has whose form is right, and whose lines are judged: enough to reckon what follows, and to apply it.
 -- Assumes nothing.
-use mathlib.Core.Path.{_≡_, refl, sym, ap, _∙_}
-use mathlib.Core.Bool.{Bool, true, false, _&&_}
-use mathlib.Core.List.{List, [], _∷_, map}
-use Prim.Native.Nat.{ℕ, _+_, _*_, _≤_}
+use mathlib.Core.Path.{_≡_, ap, _∙_}
+use mathlib.Core.Bool.{true, false}
+use mathlib.Core.List.{List, map}
+use Prim.Native.Nat.{ℕ, _*_, _≤_}
 use native.Mathlib.Omega.{arith}
 use lib.ListN.{length}
-use Rattle.theory.specs.Truth.{and-left, and-right}
 use Rattle.theory.specs.Each.{Each, each-map}
-use Rattle.theory.specs.Every.{run}
-use Rattle.theory.specs.Same.{eqs, eqs-true}
 use Rattle.theory.specs.Parts.{chop}
 use Rattle.theory.specs.Pick.{good, bad, pick}
-use Rattle.theory.specs.Tally.{tally, tallies}
+use Rattle.theory.specs.Tally.{tally}
 use Rattle.theory.specs.Distinct.{distinct}
-use Rattle.texts.specs.Field.{field}
-use Rattle.fields.specs.Field.{digit}
 use Rattle.times.specs.Moment.{real-length}
 use Rattle.columns.specs.Columns.{panOf, actor}
 use Rattle.lines.specs.Rules.{recordHolds, L2}
 use Rattle.lines.specs.Faultless.{Faultless, faultless-record}
-use Rattle.lines.specs.End.{recordOf}
 use Rattle.records.specs.Written.{record-front}
 use Rattle.records.specs.Holds.{record-long}
 use Rattle.hgv.specs.Layout.{lineLength, linesMost, linesIn, body, linesOf}
@@ -29,11 +23,10 @@ use Rattle.header.specs.Header.{sender}
 use Rattle.header.specs.Laws.{header-sender}
 use Rattle.register.specs.Register.{records, slotsIn}
 use Rattle.register.specs.Search.{of, heldByAnother}
-use Rattle.verdicts.specs.Verdict.{fileVerdicts, taken}
+use Rattle.verdicts.specs.Verdict.{taken}
 use Rattle.verdicts.specs.Laws.{length-verdicts, each-faultless, each-free, taken-apart}
-use Rattle.hgc.specs.Confirmation.{confirmation, confirmationLength}
+use Rattle.hgc.specs.Confirmation.{confirmationLength}
 use Rattle.hgc.specs.Laws.{length-confirmation}
-use Rattle.holdings.specs.Holdings.{holdings}
 use Rattle.holdings.specs.Room.{usedAfter, used-after}
 use Rattle.stops.specs.Clear.{Clear}
 use Rattle.importer.specs.Import.{judged, following, confirmed}

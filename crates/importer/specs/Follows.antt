@@ -1,10 +1,9 @@
 -- What an accepted import leaves: taken and rejected add up to the header's count (T7); the register is in order again,
 -- holds exactly the records that follow, and no other provider's record differs (T9). Assumes nothing.
 use mathlib.Core.Path.{_≡_, sym, _∙_}
-use mathlib.Core.Bool.{Bool, true, false}
+use mathlib.Core.Bool.{false}
 use mathlib.Core.List.{List, []}
 use Prim.Native.Nat.{ℕ, _+_, _<_}
-use lib.Dec.{eqb}
 use lib.ListN.{length, getD}
 use borrow.Author.Tests.{eqb-true}
 use Rattle.theory.specs.Pick.{good, bad}
@@ -25,7 +24,7 @@ use Rattle.applying.specs.Others.{others-stay, places-stay}
 use Rattle.stops.specs.Clear.{Clear}
 use Rattle.importer.specs.Import.{judged, following, numberOf, written}
 use Rattle.importer.specs.Accepted.{lines-hold, lines-his, lines-apart, lines-free}
-use Rattle.importer.specs.Numbers.{Room, accepted-clear, accepted-room}
+use Rattle.importer.specs.Numbers.{accepted-clear, accepted-room}
 
 module _ (mode : ℕ) (reception register rows h hgc : List ℕ) (e : numberOf mode reception register rows h hgc ≡ 0) where
   c : Clear mode reception register rows h

@@ -2,7 +2,7 @@
 -- import, and what follows is written. Assumes nothing.
 use mathlib.Core.Path.{_≡_, refl, sym}
 use mathlib.Core.Bool.{true}
-use mathlib.Core.List.{List, [], _∷_, _++_}
+use mathlib.Core.List.{List}
 use Prim.Native.Nat.{ℕ, _≤_}
 use lib.ListN.{length}
 use borrow.Author.Tests.{ltb-false}
@@ -11,7 +11,6 @@ use Rattle.theory.specs.Stopped.{at-stop, at-success, by-first, by-second, by-n
 use Rattle.register.specs.Register.{slotsIn}
 use Rattle.stops.specs.Stops.{formStops, formStop}
 use Rattle.stops.specs.Clear.{Clear, clear, clear-none}
-use Rattle.importer.specs.declared.Imported.{Imported}
 use Rattle.importer.specs.Import.{following, confirmed, roomStops, stops, numberOf, refusal, success, written, told, answer, registerAfter, hgcAfter}
 
 module _ (mode : ℕ) (reception register rows h hgc : List ℕ) where

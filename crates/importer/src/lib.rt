@@ -6,7 +6,8 @@ ghost use Rattle.theory.specs.Pick.{bad};
 ghost use Rattle.theory.specs.Tally.{tally};
 ghost use Rattle.stops.specs.Clear.{Clear};
 ghost use Rattle.hgv.specs.Layout.{linesIn};
-ghost use Rattle.importer.specs.Import.{judged, roomStops, refusal, success, written, told, answer, registerAfter, hgcAfter};
+ghost use Rattle.importer.specs.Import.{judged, roomStops, refusal, success, written, told};
+ghost use Rattle.importer.specs.Outcomes.{Outcome};
 ghost use Rattle.importer.specs.Accepted.{Accepted};
 
 const SLOT: usize = 128;
@@ -102,7 +103,7 @@ fn import_judged(
     verdicts: &[u8],
 ) -> Imported
     requires { ⌜ Clear mode (now reception) (now register) (now rows) (now hgv) × (now verdicts ≡ judged (now register) (now rows) (now hgv)) ⌝ }
-    ensures { λ r. ⌜ (r ≡ answer mode (now (reception .entry)) (now (register .entry)) (now (rows .entry)) (now (hgv .entry)) (now (hgc .entry))) × ((now (register .exit) ≡ registerAfter mode (now (reception .entry)) (now (register .entry)) (now (rows .entry)) (now (hgv .entry)) (now (hgc .entry))) × (now (hgc .exit) ≡ hgcAfter mode (now (reception .entry)) (now (register .entry)) (now (rows .entry)) (now (hgv .entry)) (now (hgc .entry)))) ⌝ }
+    ensures { λ r. ⌜ Outcome mode (now (reception .entry)) (now (register .entry)) (now (rows .entry)) (now (hgv .entry)) (now (hgc .entry)) r (now (register .exit)) (now (hgc .exit)) ⌝ }
 {
     let taken = verdicts::count_taken(verdicts);
     let rejected = verdicts.len() as u64 - taken;
@@ -143,7 +144,7 @@ fn import_lines(
     verdicts: &mut [u8],
 ) -> Imported
     requires { ⌜ Clear mode (now reception) (now register) (now rows) (now hgv) × (length (now verdicts) ≡ linesIn (now hgv)) ⌝ }
-    ensures { λ r. ⌜ (r ≡ answer mode (now (reception .entry)) (now (register .entry)) (now (rows .entry)) (now (hgv .entry)) (now (hgc .entry))) × ((now (register .exit) ≡ registerAfter mode (now (reception .entry)) (now (register .entry)) (now (rows .entry)) (now (hgv .entry)) (now (hgc .entry))) × (now (hgc .exit) ≡ hgcAfter mode (now (reception .entry)) (now (register .entry)) (now (rows .entry)) (now (hgv .entry)) (now (hgc .entry)))) ⌝ }
+    ensures { λ r. ⌜ Outcome mode (now (reception .entry)) (now (register .entry)) (now (rows .entry)) (now (hgv .entry)) (now (hgc .entry)) r (now (register .exit)) (now (hgc .exit)) ⌝ }
 {
     verdicts::judge(hgv, rows, register, verdicts);
     import_judged(mode, reception, register, rows, hgv, hgc, verdicts)
@@ -157,7 +158,7 @@ pub fn import(
     hgv: &[u8],
     hgc: &mut [u8],
 ) -> Imported
-    ensures { λ r. ⌜ (r ≡ answer mode (now (reception .entry)) (now (register .entry)) (now (rows .entry)) (now (hgv .entry)) (now (hgc .entry))) × ((now (register .exit) ≡ registerAfter mode (now (reception .entry)) (now (register .entry)) (now (rows .entry)) (now (hgv .entry)) (now (hgc .entry))) × (now (hgc .exit) ≡ hgcAfter mode (now (reception .entry)) (now (register .entry)) (now (rows .entry)) (now (hgv .entry)) (now (hgc .entry)))) ⌝ }
+    ensures { λ r. ⌜ Outcome mode (now (reception .entry)) (now (register .entry)) (now (rows .entry)) (now (hgv .entry)) (now (hgc .entry)) r (now (register .exit)) (now (hgc .exit)) ⌝ }
 {
     let form = stops::form_stop(mode, reception, register, rows, hgv);
     if form != 0 {

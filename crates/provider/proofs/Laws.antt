@@ -1,31 +1,32 @@
 -- What the functions of this crate cite. Assumes nothing.
 use mathlib.Core.Path.{_≡_, refl, sym, ap, _∙_}
 use mathlib.Core.Bool.{Bool, true, false, _&&_, _||_, false≢true}
-use mathlib.Core.List.{List, [], _∷_, map}
-use Prim.Native.Nat.{ℕ, zero, suc, _+_, _*_, _/_, _≤_, _<_}
+use mathlib.Core.List.{List, [], _∷_}
+use Prim.Native.Nat.{ℕ, zero, suc, _+_, _*_, _≤_, _<_}
 use native.Mathlib.Omega.{arith}
 use lib.Dec.{eqb, leb}
-use lib.ListN.{length, drop, getD, List·getD-map}
+use lib.ListN.{length, getD, List·getD-map}
 use borrow.Author.Tests.{eqb-true, eq-eqb, leb-true}
 use Rattle.theory.specs.Truth.{same-truth}
 use Rattle.theory.specs.Text.{bytes}
 use Rattle.theory.specs.Same.{eqs, eqs-true, mem}
 use Rattle.theory.specs.Count.{bump}
 use Rattle.theory.specs.Each.{Each, none, more, each-at}
-use Rattle.theory.specs.Keep.{onto, sift, sift-all, sift-length, length-onto}
-use Rattle.theory.specs.Walk.{each, each-passes, passes-each}
+use Rattle.theory.specs.Keep.{onto, sift, sift-all, sift-length}
+use Rattle.theory.specs.Walk.{each, each-passes}
 use Rattle.theory.specs.Parts.{chop, partAt, part-fits, length-chop}
 use Rattle.theory.specs.Join.{getD-chop}
 use Rattle.theory.specs.Pick.{bad}
 use Rattle.texts.specs.Field.{field, listed}
 use Rattle.numbers.specs.Number.{numberAfter, number}
 use Rattle.header.specs.Header.{sender}
-use Rattle.register.specs.Register.{slotsIn, slotsOf, records, usedIn, usedPart}
+use Rattle.register.specs.Register.{slotsIn, slotsOf, records, usedPart}
 use Rattle.register.specs.Search.{of, countOf}
 use Rattle.register.specs.Laws.{slots-used, used-slots}
 use Rattle.hgc.specs.Confirmation.{answerLength}
 use Rattle.pairing.specs.Telling.{toldAt, told-left}
-use Rattle.receipts.specs.Receipt.{answersIn, behindHead, answersOf, reasonOf, reasonHolds, reasonsOf}
+use Rattle.receipts.specs.Receipt.{answersIn, behindHead, answersOf, reasonOf, reasonHolds}
+use Rattle.provider.specs.ReadBack.{reasonsOf}
 use Rattle.receipts.specs.Laws.{answers-room, answers-are}
 use Rattle.provider.specs.Update.{ownHolds}
 

@@ -2,11 +2,11 @@
 -- what follows is written. Assumes nothing.
 use mathlib.Core.Path.{_≡_, refl, sym}
 use mathlib.Core.Bool.{true, false}
-use mathlib.Core.List.{List, [], _∷_}
+use mathlib.Core.List.{List}
 use Prim.Native.Nat.{ℕ, _≤_, _<_}
 use lib.ListN.{length}
-use borrow.Author.Tests.{not-false, ltb-false, lt-ltb, le-ltb}
-use Rattle.theory.specs.First.{None, none, more, first, choose, first-clear, numbered}
+use borrow.Author.Tests.{not-false, lt-ltb, le-ltb}
+use Rattle.theory.specs.First.{None, more, first, choose, first-clear, numbered}
 use Rattle.theory.specs.Stopped.{at-stop, at-success, by-first, by-second}
 use Rattle.hgv.specs.Layout.{linesIn, lengthHolds}
 use Rattle.register.specs.Register.{slotsIn, inOrder}

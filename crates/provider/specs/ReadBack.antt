@@ -2,7 +2,7 @@
 -- HGC. Assumes nothing.
 use Prim.Native.Nat.{ℕ}
 use mathlib.Core.Bool.{not}
-use mathlib.Core.List.{List, [], _∷_, _++_}
+use mathlib.Core.List.{List, [], _∷_, _++_, map}
 use lib.Dec.{ltb}
 use lib.ListN.{length, drop}
 use Rattle.theory.specs.First.{Rule, _if_, first}
@@ -11,9 +11,19 @@ use Rattle.hgv.specs.Layout.{linesIn, lengthHolds}
 use Rattle.frames.specs.Frames.{footerHolds, framesHold}
 use Rattle.header.specs.Header.{headerHolds}
 use Rattle.claims.specs.Claims.{versionHolds, receiverHolds, countHolds}
-use Rattle.receipts.specs.Receipt.{receiptHolds, readVerdicts}
+use Rattle.numbers.specs.Number.{number}
+use Rattle.pairing.specs.Pairing.{told}
+use Rattle.receipts.specs.Receipt.{answersOf, reasonOf, marksOf, receiptHolds}
 use Rattle.provider.specs.declared.Counted.{Counted}
 use Rattle.provider.specs.Answer.{refusal, counted}
+
+-- the reasons as numbers
+unfoldable pub reasonsOf : List ℕ → List ℕ
+reasonsOf g = map (λ a. number (reasonOf a)) (answersOf g)
+
+-- for each HGV line, in file order, 0 if taken, else the reason
+unfoldable pub readVerdicts : List ℕ → List ℕ → List ℕ
+readVerdicts h g = told (marksOf h g) (reasonsOf g)
 
 -- 25 to 27, 29 (receiver only), 30 to 32
 unfoldable pub fileStops : List ℕ → List Rule

@@ -14,10 +14,11 @@ ghost use Rattle.hgv.specs.Layout.{linesIn};
 ghost use Rattle.pairing.specs.Pairing.{told};
 ghost use Rattle.pairing.specs.Telling.{toldAt};
 ghost use Rattle.pairing.specs.Backwards.{paired};
-ghost use Rattle.receipts.specs.Receipt.{answersIn, answersOf, reasonHolds, textsOf, copiesOf, marksOf, receiptHolds, reasonsOf};
+ghost use Rattle.receipts.specs.Receipt.{answersIn, answersOf, reasonHolds, textsOf, copiesOf, marksOf, receiptHolds};
 ghost use Rattle.provider.specs.Answer.{refusal, counted};
-ghost use Rattle.provider.specs.ReadBack.{fileStops, readAnswer, verdictsAfter};
-ghost use Rattle.provider.specs.Update.{ownHolds, copyStops, updateAnswer, copyAfter};
+ghost use Rattle.provider.specs.ReadBack.{reasonsOf, fileStops};
+ghost use Rattle.provider.specs.Update.{ownHolds, copyStops};
+ghost use Rattle.provider.specs.Outcomes.{ReadOutcome, UpdateOutcome};
 
 const SLOT: usize = 128;
 
@@ -52,6 +53,15 @@ fn count(hgv: &[u8], hgc: &[u8], marks: &[u8]) -> Counted
         taken,
         rejected,
     }
+}
+
+// Does the HGC hold beside its HGV (52); `marks` then says which lines were taken.
+fn is_receipt(hgv: &[u8], hgc: &[u8], marks: &mut [u8]) -> bool
+    requires { ⌜ length (now marks) ≡ linesIn (now hgv) ⌝ }
+    ensures { λ r. ⌜ (r ≡ receiptHolds (now (hgv .entry)) (now (hgc .entry))) × (now (marks .exit) ≡ paired (textsOf (now (hgv .entry))) (copiesOf (now (hgc .entry)))) ⌝ }
+{
+    let lines = matching::lines_hold(hgv, hgc, marks);
+    receipts::says(hgv, hgc) & lines
 }
 
 // The stops that look at the HGV alone.
@@ -105,6 +115,35 @@ fn tell(hgc: &[u8], marks: &[u8], verdicts: &mut [u8])
     }
 }
 
+// What is read beside an HGV whose form is right; `marks` has a byte for each of its lines.
+fn read_lines(hgv: &[u8], hgc: &[u8], verdicts: &mut [u8], marks: &mut [u8]) -> Counted
+    requires { ⌜ (first (fileStops (now hgv)) ≡ 0) × (length (now marks) ≡ linesIn (now hgv)) ⌝ }
+    ensures { λ r. ⌜ ReadOutcome (now (hgv .entry)) (now (hgc .entry)) (now (verdicts .entry)) r (now (verdicts .exit)) ⌝ }
+{
+    if !is_receipt(hgv, hgc, marks) {
+        return refused(52);
+    }
+    if verdicts.len() < marks.len() {
+        return refused(53);
+    }
+    tell(hgc, marks, verdicts);
+    count(hgv, hgc, marks)
+}
+
+// An HGC read back: 0 or a stop, and how many lines were taken and rejected; a byte for each HGV line goes into `verdicts`, 0
+// where it was taken, else the reason.
+pub fn read_back(hgv: &[u8], hgc: &[u8], verdicts: &mut [u8]) -> Counted
+    ensures { λ r. ⌜ ReadOutcome (now (hgv .entry)) (now (hgc .entry)) (now (verdicts .entry)) r (now (verdicts .exit)) ⌝ }
+{
+    let stop = file_stop(hgv);
+    if stop != 0 {
+        return refused(stop);
+    }
+    let mut marks = [0u8; LINES];
+    let n = hgv::lines_in(hgv);
+    read_lines(hgv, hgc, verdicts, &mut marks[..n])
+}
+
 // Is every record in the copy the sender's.
 fn is_own(copy: &[u8], hgv: &[u8]) -> bool
     ensures { λ r. ⌜ r ≡ ownHolds (now (copy .entry)) (now (hgv .entry)) ⌝ }
@@ -128,4 +167,36 @@ fn copy_stop(mode: u64, copy: &[u8], hgv: &[u8]) -> u64
     let s25 = rules::first(!hgv::has_length(hgv), 25, s26);
     let s23 = rules::first(!register::in_order(copy), 23, s25);
     rules::first(!stops::is_mode(mode), 21, s23)
+}
+
+// The update by an HGV whose form is right; `marks` has a byte for each of its lines.
+fn update_lines(mode: u64, copy: &mut [u8], hgv: &[u8], hgc: &[u8], marks: &mut [u8]) -> Counted
+    requires { ⌜ (first (copyStops mode (now copy) (now hgv)) ≡ 0) × (length (now marks) ≡ linesIn (now hgv)) ⌝ }
+    ensures { λ r. ⌜ UpdateOutcome mode (now (copy .entry)) (now (hgv .entry)) (now (hgc .entry)) r (now (copy .exit)) ⌝ }
+{
+    if !is_receipt(hgv, hgc, marks) {
+        return refused(52);
+    }
+    let sender = header::sender(hgv);
+    let lines = hgv::body(hgv);
+    let used = holdings::used_after(mode, copy, sender, lines, marks);
+    if copy.len() / SLOT < used {
+        return refused(33);
+    }
+    let reception = receipts::reception(hgc);
+    applying::apply(mode, copy, sender, reception, lines, marks);
+    count(hgv, hgc, marks)
+}
+
+// The update of a provider's copy by an import of his: 0 or a stop, and how many lines were taken and rejected.
+pub fn update(mode: u64, copy: &mut [u8], hgv: &[u8], hgc: &[u8]) -> Counted
+    ensures { λ r. ⌜ UpdateOutcome mode (now (copy .entry)) (now (hgv .entry)) (now (hgc .entry)) r (now (copy .exit)) ⌝ }
+{
+    let stop = copy_stop(mode, copy, hgv);
+    if stop != 0 {
+        return refused(stop);
+    }
+    let mut marks = [0u8; LINES];
+    let n = hgv::lines_in(hgv);
+    update_lines(mode, copy, hgv, hgc, &mut marks[..n])
 }

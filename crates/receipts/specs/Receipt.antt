@@ -23,7 +23,7 @@ use Rattle.hgv.specs.Layout.{footerLength, linesOf}
 use Rattle.frames.specs.Frames.{footerHolds}
 use Rattle.header.specs.Header.{sender, listSequence}
 use Rattle.hgc.specs.Confirmation.{headLength, answerLength, outcome}
-use Rattle.pairing.specs.Pairing.{marks, left, told}
+use Rattle.pairing.specs.Pairing.{marks, left}
 
 -- ---- its layout
 
@@ -135,13 +135,3 @@ linesHold h g = copiesHold h g && countsHold h g && takenHold h g
 -- 52 is given where this does not hold
 unfoldable pub receiptHolds : List ℕ → List ℕ → Bool
 receiptHolds h g = saysHold h g && linesHold h g
-
--- ---- what is read
-
--- the reasons as numbers
-unfoldable pub reasonsOf : List ℕ → List ℕ
-reasonsOf g = map (λ a. number (reasonOf a)) (answersOf g)
-
--- for each line 0 where it was taken, else its reason
-unfoldable pub readVerdicts : List ℕ → List ℕ → List ℕ
-readVerdicts h g = told (marksOf h g) (reasonsOf g)

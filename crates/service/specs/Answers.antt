@@ -7,10 +7,15 @@ use Rattle.theory.specs.First.{choose}
 use Rattle.register.specs.Register.{slotLength}
 use Rattle.lookups.specs.Lookup.{panNumber, panPlace, panSlot, plateNumber, platePlace, plateSlot}
 use Rattle.importer.specs.declared.Imported.{Imported}
+use Rattle.provider.specs.declared.Counted.{Counted}
 
 -- the number returned and the three numbers written, as the import answers them
 abbrev pub answered : ℕ → ℕ → ℕ → ℕ → Imported
 answered number taken rejected length = record { number = number; taken = taken; rejected = rejected; length = length }
+
+-- the number returned and the two numbers written, as the provider's functions answer them
+abbrev pub countedAs : ℕ → ℕ → ℕ → Counted
+countedAs number taken rejected = record { number = number; taken = taken; rejected = rejected }
 
 -- where the slot at a place starts; 0 at a refusal
 unfoldable pub startOf : ℕ → ℕ → ℕ

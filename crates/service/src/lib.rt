@@ -4,7 +4,9 @@ ghost use mathlib.Core.Path.{_≡_};
 ghost use Prim.Native.Nat.{_*_, _≤_};
 ghost use Rattle.lookups.specs.Lookup.{panNumber, plateNumber};
 ghost use Rattle.importer.specs.Import.{answer, registerAfter, hgcAfter};
-ghost use Rattle.service.specs.Answers.{answered, startOf, panStart, panLength, plateStart, plateLength};
+ghost use Rattle.provider.specs.ReadBack.{readAnswer, verdictsAfter};
+ghost use Rattle.provider.specs.Update.{updateAnswer, copyAfter};
+ghost use Rattle.service.specs.Answers.{answered, countedAs, startOf, panStart, panLength, plateStart, plateLength};
 
 const SLOT: usize = 128;
 
@@ -74,4 +76,39 @@ pub extern "C" fn graftspindle_by_plate(
     let place = lookups::place_by_plate(register, plate, nationality, time);
     *start = start_of(number, place);
     number
+}
+
+// An HGC read back beside its HGV: 0 or the number of a stop; how many lines were taken and rejected.
+#[no_mangle]
+pub extern "C" fn graftspindle_read_back(
+    hgv: &[u8],
+    hgc: &[u8],
+    verdicts: &mut [u8],
+    taken: &mut u64,
+    rejected: &mut u64,
+) -> u64
+    ensures { λ r. ⌜ (countedAs r (now (taken .exit)) (now (rejected .exit)) ≡ readAnswer (now (hgv .entry)) (now (hgc .entry)) (now (verdicts .entry))) × (now (verdicts .exit) ≡ verdictsAfter (now (hgv .entry)) (now (hgc .entry)) (now (verdicts .entry))) ⌝ }
+{
+    let read = provider::read_back(hgv, hgc, verdicts);
+    *taken = read.taken;
+    *rejected = read.rejected;
+    read.number
+}
+
+// The update of a provider's copy, the same way.
+#[no_mangle]
+pub extern "C" fn graftspindle_update(
+    mode: u64,
+    copy: &mut [u8],
+    hgv: &[u8],
+    hgc: &[u8],
+    taken: &mut u64,
+    rejected: &mut u64,
+) -> u64
+    ensures { λ r. ⌜ (countedAs r (now (taken .exit)) (now (rejected .exit)) ≡ updateAnswer mode (now (copy .entry)) (now (hgv .entry)) (now (hgc .entry))) × (now (copy .exit) ≡ copyAfter mode (now (copy .entry)) (now (hgv .entry)) (now (hgc .entry))) ⌝ }
+{
+    let updated = provider::update(mode, copy, hgv, hgc);
+    *taken = updated.taken;
+    *rejected = updated.rejected;
+    updated.number
 }

@@ -18,5 +18,8 @@ part-one width i block r s = one-outcome
 pub same-one : (a b : List ℕ) (r s : Bool) → r ≡ eqs a b → s ≡ eqs a b → r ≡ s
 same-one a b r s = one-outcome
 
+pub has-text-one : (from to : ℕ) (t u : List ℕ) (r s : Bool) → r ≡ eqs (field from to t) u → s ≡ eqs (field from to t) u → r ≡ s
+has-text-one from to t u r s = one-outcome
+
 pub listed-one : (width : ℕ) (table f : List ℕ) (r s : Bool) → r ≡ listed width table f → s ≡ listed width table f → r ≡ s
 listed-one width table f r s = one-outcome

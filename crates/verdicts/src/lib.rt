@@ -10,15 +10,15 @@ ghost use Rattle.theory.specs.Pick.{good, pick};
 ghost use Rattle.theory.specs.Tally.{tally};
 ghost use Rattle.register.specs.Register.{records, slotsOf};
 ghost use Rattle.register.specs.Search.{holdsPan};
-ghost use Rattle.hgv.specs.Layout.{linesIn};
+ghost use Rattle.hgv.specs.Layout.{lineLength, linesIn};
 ghost use Rattle.verdicts.specs.Verdict.{ownRules, verdict, verdictsOf, fileVerdicts};
 
 const LINE: usize = 128;
 
 // Has one of the taken lines among the first n this PAN.
 pub fn is_named(lines: &[u8], verdicts: &[u8], n: usize, pan: &[u8]) -> bool
-    requires { ⌜ (n * 128 ≤ length (now lines)) × (n ≤ length (now verdicts)) ⌝ }
-    ensures { λ r. ⌜ r ≡ some (holdsPan (now (pan .entry))) (pick good (now (verdicts .entry)) (chop 128 n (now (lines .entry)))) ⌝ }
+    requires { ⌜ (n * lineLength ≤ length (now lines)) × (n ≤ length (now verdicts)) ⌝ }
+    ensures { λ r. ⌜ r ≡ some (holdsPan (now (pan .entry))) (pick good (now (verdicts .entry)) (chop lineLength n (now (lines .entry)))) ⌝ }
 {
     let mut i: usize = 0;
     while i < n {
@@ -56,8 +56,8 @@ fn verdict_at(
     rows: &[u8],
     held: &[u8],
 ) -> u8
-    requires { ⌜ (i * 128 + 128 ≤ length (now lines)) × (i ≤ length (now verdicts)) ⌝ }
-    ensures { λ r. ⌜ r ≡ verdict (now (rows .entry)) (now (sender .entry)) (slotsOf (now (held .entry))) (pick good (now (verdicts .entry)) (chop 128 i (now (lines .entry)))) (partAt 128 i (now (lines .entry))) ⌝ }
+    requires { ⌜ (i * lineLength + lineLength ≤ length (now lines)) × (i ≤ length (now verdicts)) ⌝ }
+    ensures { λ r. ⌜ r ≡ verdict (now (rows .entry)) (now (sender .entry)) (slotsOf (now (held .entry))) (pick good (now (verdicts .entry)) (chop lineLength i (now (lines .entry)))) (partAt lineLength i (now (lines .entry))) ⌝ }
 {
     let l = texts::part(lines, LINE, i);
     let fault = own_fault(l, sender, rows, held);
@@ -73,8 +73,8 @@ fn verdict_at(
 
 // A verdict for each of the lines, as many as `verdicts` has room for.
 fn judge_lines(lines: &[u8], sender: &[u8], rows: &[u8], held: &[u8], verdicts: &mut [u8])
-    requires { ⌜ length (now verdicts) * 128 ≤ length (now lines) ⌝ }
-    ensures { λ _. ⌜ now (verdicts .exit) ≡ verdictsOf (now (rows .entry)) (now (sender .entry)) (slotsOf (now (held .entry))) (chop 128 (length (now (verdicts .entry))) (now (lines .entry))) ⌝ }
+    requires { ⌜ length (now verdicts) * lineLength ≤ length (now lines) ⌝ }
+    ensures { λ _. ⌜ now (verdicts .exit) ≡ verdictsOf (now (rows .entry)) (now (sender .entry)) (slotsOf (now (held .entry))) (chop lineLength (length (now (verdicts .entry))) (now (lines .entry))) ⌝ }
 {
     let mut i: usize = 0;
     while i < verdicts.len() {

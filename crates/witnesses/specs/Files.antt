@@ -23,6 +23,17 @@ wrong = bytes "1900123      9799001200000002   ABC123    NO 12  30C00B00050330C0
 abbrev pub other : List ℕ
 other = bytes "1900123      9799001200000010   XYZ1      NO 12  30C00B00050330C00B001222070321Euro6 02N   004000000000000000000000000000000000" ++ lineEnd
 
+-- an account that has ended before reception, as it is sent and as it is stored
+abbrev pub ended : List ℕ
+ended = bytes "1900123      9799001200000002   ABC123    NO 12  30C00B00050330C00B001222070321Euro6 02N   004000000202501010000003000000000000" ++ lineEnd
+
+abbrev pub stored : List ℕ
+stored = bytes "1900123      9799001200000002   ABC123    NO 12  30C00B00050330C00B001222070321Euro6 02N   004000000202503100500003000000000000" ++ lineEnd
+
+-- that line in the HGC, rejected for the second time that it stands in a file
+abbrev pub answered : List ℕ
+answered = bytes "1900123      9799001200000002   ABC123    NO 12  30C00B00050330C00B001222070321Euro6 02N   004000000202501010000003000000000000" ++ bytes "01" ++ lineEnd
+
 abbrev pub footer : List ℕ
 footer = bytes "200000000000000000000000000000000000000000000000000000000000000" ++ lineEnd
 
@@ -43,6 +54,9 @@ bad = file (bytes "000000000000001") wrong
 
 abbrev pub next : List ℕ
 next = file (bytes "000000000000001") other
+
+abbrev pub twice : List ℕ
+twice = file (bytes "000000000000002") (ended ++ ended)
 
 -- the definition's whole case: the confirmation of a file without lines
 abbrev pub whole : List ℕ

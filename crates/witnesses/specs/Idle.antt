@@ -1,9 +1,10 @@
--- The four idle builds, shut out by what the definitions say of small files: one that always stops, one that gives the same
--- HGC for all files, one that leaves the register unwritten, one that imports the first file only. Assumes nothing.
+-- What the definitions say of small files. The four idle builds are shut out by it: one that always stops, one that gives the same
+-- HGC for all files, one that leaves the register unwritten, one that imports the first file only; and so is an HGC that has the
+-- stored end. Assumes nothing.
 use mathlib.Core.Path.{_≡_, refl}
 use mathlib.Core.Bool.{false}
 use mathlib.Core.List.{List, _++_}
-use lib.ListN.{replicate}
+use lib.ListN.{drop, replicate}
 use Prim.Native.Nat.{ℕ}
 use Rattle.theory.specs.Count.{bump}
 use Rattle.theory.specs.Distinct.{distinct}
@@ -15,7 +16,7 @@ use Rattle.theory.specs.Pad.{free, pad, frontOn, front}
 use Rattle.theory.specs.Parts.{chop}
 use Rattle.theory.specs.Pick.{good, bad, pick}
 use Rattle.theory.specs.Same.{eqs, mem}
-use Rattle.theory.specs.Scan.{scan}
+use Rattle.theory.specs.Scan.{takenNext, scan}
 use Rattle.theory.specs.Tally.{tally}
 use Rattle.theory.specs.Walk.{each, some}
 use Rattle.texts.specs.Field.{field, listed}
@@ -26,6 +27,7 @@ use Rattle.plates.specs.Plate.{allowed, plate, nationality, separated, separato
 use Rattle.issuers.specs.Rows.{row, rows, sentBy, beginning, fitting, known, begun, fitted}
 use Rattle.times.specs.Time.{daysIn, realTime, realDate}
 use Rattle.vehicles.specs.Vehicle.{tariffHolds, classHolds, emissionHolds, productHolds, engineHolds, validToHolds, separatorHolds, fieldsHold, weightHolds, L10}
+use Rattle.times.specs.Order.{earlier}
 use Rattle.lines.specs.End.{endOf, recordOf}
 use Rattle.lines.specs.Rules.{L1, L2, L3, L4, L5, L6, L7, stateless, L8, L9, lineRules, recordHolds}
 use Rattle.lines.specs.Starred.{starred}
@@ -67,6 +69,10 @@ pub idle :
     -- no line, and one bad line, give different bytes
     × ((eqs (hgcAfter 1 files.reception (slots 128) files.row files.empty buffer) (hgcAfter 1 files.reception (slots 128) files.row files.bad buffer) ≡ false)
     -- two imports, one after the other: both records are there
-    × (registerAfter 1 files.reception after files.row files.next buffer ≡ files.line ++ files.other))))
-unfolding bump distinct all run leading choose first flat onto free pad frontOn front chop good bad pick eqs mem scan tally each some field listed filledTo filled numberAfter number decimal pan doubled counted luhnSum luhn allowed plate nationality separated separator row rows sentBy beginning fitting known begun fitted daysIn realTime realDate tariffHolds classHolds emissionHolds productHolds engineHolds validToHolds separatorHolds fieldsHold weightHolds L10 endOf recordOf L1 L2 L3 L4 L5 L6 L7 stateless L8 L9 lineRules recordHolds starred slotsOf marked usedForm freeForm records usedPart inOrder holdsPan placeOf of holdsForeign heldByAnother countOf linesIn lengthHolds body linesOf footer footerForm footerHolds framed framesHold sequence previousHolds headerHolds versionHolds incrementalOnly receiverHolds countHolds zeros outcome names counts head answer said answers foot confirmation ownRules verdictRules verdict verdictsOf fileVerdicts taken rejected storedOn stored storedAll others replacedAll isFull holdings usedAfter modeHolds notFull addressed formStops formStop judged following confirmed roomStops stops numberOf unlessStopped refusal success registerAfter hgcAfter written told answered
-idle = (refl, (refl, (refl, (refl, refl))))
+    × ((registerAfter 1 files.reception after files.row files.next buffer ≡ files.line ++ files.other)
+    -- an account that has ended, sent twice: the slot holds its end
+    × ((registerAfter 1 files.reception (slots 128) files.row files.twice buffer ≡ files.stored)
+    -- and the HGC has the Valid to that was sent
+    × (drop 110 (hgcAfter 1 files.reception (slots 128) files.row files.twice buffer) ≡ files.answered ++ files.footer))))))
+unfolding takenNext earlier bump distinct all run leading choose first flat onto free pad frontOn front chop good bad pick eqs mem scan tally each some field listed filledTo filled numberAfter number decimal pan doubled counted luhnSum luhn allowed plate nationality separated separator row rows sentBy beginning fitting known begun fitted daysIn realTime realDate tariffHolds classHolds emissionHolds productHolds engineHolds validToHolds separatorHolds fieldsHold weightHolds L10 endOf recordOf L1 L2 L3 L4 L5 L6 L7 stateless L8 L9 lineRules recordHolds starred slotsOf marked usedForm freeForm records usedPart inOrder holdsPan placeOf of holdsForeign heldByAnother countOf linesIn lengthHolds body linesOf footer footerForm footerHolds framed framesHold sequence previousHolds headerHolds versionHolds incrementalOnly receiverHolds countHolds zeros outcome names counts head answer said answers foot confirmation ownRules verdictRules verdict verdictsOf fileVerdicts taken rejected storedOn stored storedAll others replacedAll isFull holdings usedAfter modeHolds notFull addressed formStops formStop judged following confirmed roomStops stops numberOf unlessStopped refusal success registerAfter hgcAfter written told answered
+idle = (refl, (refl, (refl, (refl, (refl, (refl, refl))))))

@@ -1,12 +1,14 @@
 //! All implementations on the generator's inputs, and what the generator reaches.
 
 use crate::common::*;
+use graftspindle_host::answers::{Counted, Imported};
 use graftspindle_host::generate::{case, pair, question, sequence, slots, Case, Event};
-use graftspindle_host::plain::{clauses_of_52, rules_broken, Counted, Imported, CLAUSES};
+use graftspindle_host::plain::{clauses_of_52, rules_broken, CLAUSES};
 use std::collections::BTreeMap;
 use std::fmt::Debug;
 
-const SEEDS: u64 = 40_000;
+const SEEDS: u64 = 100_000;
+const SEQUENCES: u64 = 2_000;
 
 type Counts<K> = BTreeMap<K, u64>;
 
@@ -87,7 +89,7 @@ fn reading_back() {
 
 #[test]
 fn updates() {
-    let mut numbers = Counts::new();
+    let (mut numbers, mut alone) = (Counts::new(), Counts::new());
     for seed in 0..SEEDS {
         let p = pair(seed);
         let (answer, _) = of_all(|engine| {
@@ -97,9 +99,13 @@ fn updates() {
             (answer, copy)
         });
         count(&mut numbers, answer.number);
+        if let (52, [clause]) = (answer.number, &clauses_of_52(&p.hgv, &p.hgc)[..]) {
+            count(&mut alone, *clause);
+        }
     }
     let expected = vec![0, 21, 23, 25, 26, 27, 28, 29, 30, 31, 32, 33, 51, 52];
     assert_reached("update's numbers", &numbers, expected);
+    assert_reached("update's clauses of 52, alone", &alone, CLAUSES.to_vec());
 }
 
 /// The used slots of an actor, in order, then free ones: what his copy must be.
@@ -124,31 +130,36 @@ fn apply(engine: &Engine, event: &Event, outcome: &Outcome, copy: &mut [u8]) {
     assert_eq!(applied, Counted { number: 0, taken, rejected });
 }
 
+/// What a sequence leaves: the outcome of each import, and each provider's copy.
+type Left = (Vec<Outcome>, BTreeMap<Vec<u8>, Vec<u8>>);
+
 /// A provider who applies each confirmation he gets holds our records of him.
-fn follow(engine: &Engine, seed: u64, numbers: &mut Counts<u64>) {
+fn follow(engine: &Engine, seed: u64) -> Left {
     let mut register = vec![0; slots(seed) * 128];
-    let mut copies: BTreeMap<Vec<u8>, Vec<u8>> = BTreeMap::new();
+    let (mut outcomes, mut copies) = Left::default();
     for event in sequence(seed) {
         let outcome = import_event(engine, &register, &event);
-        count(numbers, outcome.answer.number);
         if outcome.answer.number == 0 {
             let none = vec![0; register.len()];
             let copy = copies.entry(event.hgv[1..7].to_vec()).or_insert(none);
             apply(engine, &event, &outcome, copy);
         }
-        register = outcome.register;
+        register.clone_from(&outcome.register);
+        outcomes.push(outcome);
         for (actor, copy) in &copies {
-            assert!(*copy == copy_expected(&register, actor), "seed {seed}");
+            assert!(*copy == copy_expected(&register, actor), "{}, seed {seed}", engine.name);
         }
     }
+    (outcomes, copies)
 }
 
 #[test]
 fn sequences() {
-    for engine in ENGINES {
-        let mut numbers = Counts::new();
-        (0..4_000).for_each(|seed| follow(engine, seed, &mut numbers));
-        println!("{}, sequences' numbers: {numbers:?}", engine.name);
-        assert!([0, 21, 22, 24, 28, 33, 34].iter().all(|number| numbers[number] >= 10));
+    let mut numbers = Counts::new();
+    for seed in 0..SEQUENCES {
+        let (outcomes, _) = of_all(|engine| follow(engine, seed));
+        outcomes.iter().for_each(|outcome| count(&mut numbers, outcome.answer.number));
     }
+    println!("sequences' numbers: {numbers:?}");
+    assert!([0, 21, 22, 24, 28, 33, 34].iter().all(|number| numbers[number] >= 10));
 }

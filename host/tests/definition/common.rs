@@ -1,47 +1,14 @@
-//! The shorthand of the cases, and both implementations under one form.
+//! The shorthand of the cases.
 
-use graftspindle_host::plain::{Counted, Imported};
-use graftspindle_host::{hashed, plain};
+use graftspindle_host::answers::{Counted, Imported};
+pub use graftspindle_host::engines::{Engine, ENGINES};
 use std::fmt::Debug;
-use std::ops::Range;
 
 pub const R0: &[u8] = b"20250310050000";
 pub const ROW0: &[u8] = b"97990012      0816900123";
 pub const LINE0: &[u8] = b"1900123      9799001200000002   ABC123    NO 12  30C00B000503\
     30C00B001222070321Euro6 02N   004000000000000000000003000000000000\n";
 pub const PAN2: &[u8] = b"9799001200000010   ";
-
-/// One implementation. A further one is tested by an entry more in `ENGINES`.
-pub struct Engine {
-    pub name: &'static str,
-    pub import: fn(u64, &[u8], &mut [u8], &[u8], &[u8], &mut [u8]) -> Imported,
-    pub by_pan: fn(&[u8], &[u8]) -> (u64, Range<usize>),
-    pub by_plate: fn(&[u8], &[u8], &[u8], &[u8]) -> (u64, Range<usize>),
-    pub read_back: fn(&[u8], &[u8], &mut [u8]) -> Counted,
-    pub update: fn(u64, &mut [u8], &[u8], &[u8]) -> Counted,
-    pub in_order: fn(&[u8]) -> bool,
-}
-
-pub const ENGINES: &[Engine] = &[
-    Engine {
-        name: "plain",
-        import: plain::import,
-        by_pan: plain::by_pan,
-        by_plate: plain::by_plate,
-        read_back: plain::read_back,
-        update: plain::update,
-        in_order: plain::in_order,
-    },
-    Engine {
-        name: "hashed",
-        import: hashed::import,
-        by_pan: hashed::by_pan,
-        by_plate: hashed::by_plate,
-        read_back: hashed::read_back,
-        update: hashed::update,
-        in_order: hashed::in_order,
-    },
-];
 
 /// LINE0[a-b:=x].
 pub fn with(line: &[u8], from: usize, field: &[u8]) -> Vec<u8> {

@@ -67,6 +67,11 @@ fn large_cases() {
         println!("mode {}, {n} lines, {slots} slots: {:?}", c.mode, outcome.answer);
         if outcome.answer.number == 0 {
             assert_eq!(of_all(|e| verdicts(e, &c.hgv, &outcome)).len(), n);
+            let (applied, _) = of_all(|e| {
+                let mut copy = free(slots);
+                ((e.update)(c.mode, &mut copy, &c.hgv, &outcome.hgc), copy)
+            });
+            assert_eq!((applied.number, applied.taken), (0, outcome.answer.taken));
         }
     }
 }

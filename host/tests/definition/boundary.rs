@@ -15,6 +15,13 @@ fn imported() -> Vec<u8> {
     register
 }
 
+/// The HGC of the same import.
+fn confirmed() -> Vec<u8> {
+    let (mut register, mut hgc) = (vec![0; 4 * 128], vec![7; 174]);
+    proved::import(1, sample::RECEPTION, &mut register, &sample::row(), &sample::hgv(3), &mut hgc);
+    hgc
+}
+
 #[test]
 fn a_stop_writes_nothing() {
     let (mut register, mut hgc) = (vec![0; 128], vec![7; 173]);
@@ -43,4 +50,40 @@ fn by_plate() {
         assert_eq!(found, plain::by_plate(&register, plate.as_bytes(), b"DE ", sample::RECEPTION));
         assert_eq!(found, if i < 3 { (0, i * 128..i * 128 + 128) } else { (41, 0..0) });
     }
+}
+
+#[test]
+fn read_back() {
+    let (hgv, hgc) = (sample::hgv(3), confirmed());
+    let (mut verdicts, mut told) = (vec![7; 5], vec![7; 5]);
+    let done = proved::read_back(&hgv, &hgc, &mut verdicts);
+    assert_eq!(done, plain::read_back(&hgv, &hgc, &mut told));
+    assert_eq!((done.number, done.taken, done.rejected), (0, 3, 0));
+    assert!(verdicts == [0, 0, 0, 7, 7] && verdicts == told);
+    let refused = proved::read_back(&hgv, &hgc[1..], &mut verdicts);
+    assert_eq!((refused.number, refused.taken, refused.rejected), (52, 0, 0));
+    assert_eq!(proved::read_back(&hgv, &hgc, &mut verdicts[..2]).number, 53);
+}
+
+#[test]
+fn update() {
+    let (hgv, hgc, mut copy) = (sample::hgv(3), confirmed(), vec![0; 4 * 128]);
+    let refused = proved::update(3, &mut copy, &hgv, &hgc);
+    assert_eq!((refused.number, refused.taken, refused.rejected), (21, 0, 0));
+    assert!(copy == vec![0; 4 * 128]);
+    let done = proved::update(2, &mut copy, &hgv, &hgc);
+    assert_eq!((done.number, done.taken, done.rejected), (0, 3, 0));
+    assert!(copy == imported());
+}
+
+/// The largest import, on a thread with a stack of 64 KiB.
+#[test]
+fn small_stack() {
+    let import = || {
+        let (mut register, mut hgc) = (vec![0; 8192 * 128], vec![0; 174]);
+        let rows = sample::row();
+        proved::import(2, sample::RECEPTION, &mut register, &rows, &sample::hgv(8192), &mut hgc).taken
+    };
+    let thread = std::thread::Builder::new().stack_size(64 * 1024).spawn(import);
+    assert_eq!(thread.expect("a thread").join().expect("it ends"), 8192);
 }

@@ -1,0 +1,139 @@
+-- What the steps of reading back and of the update leave, from what the pairing found: r says whether the HGC holds, and ms are
+-- its marks. Assumes nothing.
+use mathlib.Core.Path.{_≡_, sym, ap, _∙_}
+use mathlib.Core.Bool.{Bool, true, false, not}
+use mathlib.Core.List.{List, _++_}
+use Prim.Native.Nat.{ℕ, _*_, _≤_, _<_}
+use native.Mathlib.Omega.{arith}
+use lib.ListN.{length, drop}
+use borrow.Author.Tests.{not-true, not-false}
+use Rattle.theory.specs.First.{first}
+use Rattle.theory.specs.Walk.{each}
+use Rattle.theory.specs.Parts.{chop}
+use Rattle.theory.specs.Pick.{good, bad, pick}
+use Rattle.theory.specs.Tally.{tally}
+use Rattle.header.specs.Header.{sender}
+use Rattle.hgv.specs.Layout.{lineLength, linesMost, linesIn, body, linesOf}
+use Rattle.hgv.specs.Laws.{lines-room, lines-most}
+use Rattle.register.specs.Register.{slotsIn, records, inOrder}
+use Rattle.holdings.specs.Holdings.{holdings}
+use Rattle.holdings.specs.Room.{usedAfter}
+use Rattle.upkeep.specs.Stays.{Holds}
+use Rattle.applying.specs.Fit.{Fit}
+use Rattle.pairing.specs.Pairing.{told}
+use Rattle.pairing.specs.Backwards.{paired}
+use Rattle.receipts.specs.Receipt.{answersIn, answersOf, receptionOf, reasonHolds, textsOf, copiesOf, marksOf, takenBy, receiptHolds}
+use Rattle.provider.specs.declared.Counted.{Counted}
+use Rattle.provider.specs.Answer.{refusal, counted}
+use Rattle.provider.specs.ReadBack.{reasonsOf, readVerdicts, fileStops, readAnswer, toldTo, verdictsAfter}
+use Rattle.provider.specs.Update.{copyStops, following, updateAnswer, updated, copyAfter}
+use Rattle.provider.specs.Numbers.{
+  file-sized,
+  read-52,
+  read-53,
+  read-done,
+  read-refused,
+  verdicts-stay,
+  read-counted,
+  verdicts-told,
+  copy-sound,
+  update-52,
+  update-33,
+  update-done,
+  update-refused,
+  copy-stays,
+  update-counted,
+  copy-updated,
+}
+use Rattle.provider.specs.Held.{length-marks-of, marks-are, reasons-held, left-count, following-used, taken-fit}
+
+-- n lines have room in a block for the most that there may be
+pub file-most : (h : List ℕ) (s : ℕ) → s ≡ first (fileStops h) → s ≡ 0 → (n : ℕ) → n ≡ linesIn h → n ≤ linesMost
+file-most h s e z n f = rw f (lines-most h (file-sized h (sym e ∙ z)))
+
+pub copy-most : (mode : ℕ) (copy h : List ℕ) (s : ℕ) → s ≡ first (copyStops mode copy h) → s ≡ 0 → (n : ℕ) → n ≡ linesIn h → n ≤ linesMost
+copy-most mode copy h s e z n f = rw f (lines-most h (copy-sound mode copy h (sym e ∙ z) .sized))
+
+module _ (h g : List ℕ) (r : Bool) (er : r ≡ receiptHolds h g) (k : not r ≡ false) where
+  holds : receiptHolds h g ≡ true
+  holds = sym er ∙ not-false r k
+
+  module _ (ms : List ℕ) (em : ms ≡ paired (textsOf h) (copiesOf g)) where
+    pub marks-fit : ms ≡ marksOf h g
+    marks-fit = marks-are h g holds ms em
+
+    pub marks-each : length ms ≡ linesIn h
+    marks-each = ap length marks-fit ∙ length-marks-of h g
+
+    pub tell-fits : (each reasonHolds (answersOf g) ≡ true) × (tally bad ms ≤ answersIn g)
+    tell-fits = (reasons-held h g holds, omega (arith, left-count h g holds ms marks-fit))
+
+-- ---- reading back
+
+module _ (h g block : List ℕ) (z : first (fileStops h) ≡ 0) (r : Bool) (er : r ≡ receiptHolds h g) where
+  -- 52
+  pub read-not : not r ≡ true → (a : Counted) → a ≡ refusal 52 → (a ≡ readAnswer h g block) × (block ≡ verdictsAfter h g block)
+  read-not k a e =
+      let n = read-52 h g block z (sym er ∙ not-true r k) in
+      (e ∙ read-refused h g block 52 n (λ i. omega arith), verdicts-stay h g block 52 n (λ i. omega arith))
+
+  module _ (k : not r ≡ false) (ms : List ℕ) (em : ms ≡ paired (textsOf h) (copiesOf g)) where
+    -- 53
+    pub read-short : length block < length ms → (a : Counted) → a ≡ refusal 53 → (a ≡ readAnswer h g block) × (block ≡ verdictsAfter h g block)
+    read-short l a e =
+        let n = read-53 h g block z (holds h g r er k) (omega (arith, marks-each h g r er k ms em)) in
+        (e ∙ read-refused h g block 53 n (λ i. omega arith), verdicts-stay h g block 53 n (λ i. omega arith))
+
+    pub read-whole : length ms ≤ length block → (a : Counted) → a ≡ counted h g → (b : List ℕ) → b ≡ told ms (reasonsOf g) ++ drop (length ms) block
+        → (a ≡ readAnswer h g block) × (b ≡ verdictsAfter h g block)
+    unfolding toldTo readVerdicts
+    read-whole l a e b f =
+        let m = marks-each h g r er k ms em in
+        let n = read-done h g block z (holds h g r er k) (omega arith) in
+        (e ∙ read-counted h g block n, f ∙ rw (m, marks-fit h g r er k ms em) (verdicts-told h g block n))
+
+-- ---- the update
+
+module _ (mode : ℕ) (copy h g : List ℕ) (z : first (copyStops mode copy h) ≡ 0) (r : Bool) (er : r ≡ receiptHolds h g) where
+  -- 52
+  pub update-not : not r ≡ true → (a : Counted) → a ≡ refusal 52 → (a ≡ updateAnswer mode copy h g) × (copy ≡ copyAfter mode copy h g)
+  update-not k a e =
+      let n = update-52 mode copy h g z (sym er ∙ not-true r k) in
+      (e ∙ update-refused mode copy h g 52 n (λ i. omega arith), copy-stays mode copy h g 52 n (λ i. omega arith))
+
+  -- from and ls are sender and body
+  module _ (k : not r ≡ false) (ms : List ℕ) (em : ms ≡ paired (textsOf h) (copiesOf g)) (from ls : List ℕ) (ef : from ≡ sender h) (el : ls ≡ body h) where
+    pub lines-fit : length ms * lineLength ≤ length ls
+    lines-fit = rw (marks-each h g r er k ms em, el) (lines-room h)
+
+    lines-are : pick good ms (chop lineLength (length ms) ls) ≡ takenBy h g
+    unfolding takenBy linesOf
+    lines-are = rw (marks-each h g r er k ms em, el, marks-fit h g r er k ms em)
+
+    -- u slots would be used
+    module _ (u : ℕ) (eu : u ≡ usedAfter mode from (records copy) (pick good ms (chop lineLength (length ms) ls))) where
+      used-is : u ≡ length (following mode copy h g)
+      used-is = eu ∙ rw (lines-are, ef) (following-used h g (holds h g r er k) mode copy)
+
+      -- 33
+      pub update-full : slotsIn copy < u → (a : Counted) → a ≡ refusal 33 → (a ≡ updateAnswer mode copy h g) × (copy ≡ copyAfter mode copy h g)
+      update-full l a e =
+          let n = update-33 mode copy h g z (holds h g r er k) (omega (arith, used-is)) in
+          (e ∙ update-refused mode copy h g 33 n (λ i. omega arith), copy-stays mode copy h g 33 n (λ i. omega arith))
+
+      module _ (l : u ≤ slotsIn copy) (reception : List ℕ) (ec : reception ≡ receptionOf g) where
+        room : length (following mode copy h g) ≤ slotsIn copy
+        room = omega (arith, used-is)
+
+        pub apply-fits : (length ms * lineLength ≤ length ls) × ((inOrder copy ≡ true) × Fit mode from reception (slotsIn copy) (records copy) (pick good ms (chop lineLength (length ms) ls)))
+        apply-fits =
+            let s = copy-sound mode copy h z in
+            (lines-fit, (s .ordered, rw (lines-are, ef, ec) (taken-fit h g (holds h g r er k) mode copy (s .own) room)))
+
+        pub update-whole : (a : Counted) → a ≡ counted h g
+            → (b : List ℕ) → Holds (slotsIn copy) (holdings mode from reception (records copy) (pick good ms (chop lineLength (length ms) ls))) b
+            → (a ≡ updateAnswer mode copy h g) × (b ≡ copyAfter mode copy h g)
+        unfolding updated following
+        update-whole a e b f =
+            let n = update-done mode copy h g z (holds h g r er k) room in
+            (e ∙ update-counted mode copy h g n, f .bytes ∙ rw (lines-are, ef, ec) (copy-updated mode copy h g n))

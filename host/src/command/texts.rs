@@ -1,0 +1,47 @@
+//! ISO 8859-1 in and out, and the fields of a line or slot that are shown.
+
+use super::Refusal;
+
+/// A word of the command line as the bytes of a field, padded with blanks.
+pub fn field(word: &str, width: usize) -> Result<Vec<u8>, Refusal> {
+    let byte = |c: char| u8::try_from(u32::from(c)).ok();
+    let bytes: Option<Vec<u8>> = word.chars().map(byte).collect();
+    let mut bytes = bytes.ok_or_else(|| Refusal::Fault(format!("{word} cannot be written in ISO 8859-1")))?;
+    bytes.resize(width.max(bytes.len()), b' ');
+    Ok(bytes)
+}
+
+/// What can be shown of bytes: a control character becomes `?`.
+pub fn shown(bytes: &[u8]) -> String {
+    let show = |&byte: &u8| Some(char::from(byte)).filter(|c| !c.is_control()).unwrap_or('?');
+    bytes.iter().map(show).collect::<String>().trim_end().to_string()
+}
+
+fn positions(line: &[u8], from: usize, to: usize) -> String {
+    shown(&line[from - 1..to])
+}
+
+pub fn actor(line: &[u8]) -> String {
+    positions(line, 2, 7)
+}
+
+pub fn pan(line: &[u8]) -> String {
+    positions(line, 14, 32)
+}
+
+pub fn plate(line: &[u8]) -> String {
+    positions(line, 33, 42)
+}
+
+pub fn nationality(line: &[u8]) -> String {
+    positions(line, 43, 45)
+}
+
+pub fn end(slot: &[u8]) -> String {
+    positions(slot, 101, 114)
+}
+
+/// The keys of the lookup by plate, as they stand.
+pub fn plate_key(slot: &[u8]) -> (&[u8], &[u8]) {
+    (&slot[32..42], &slot[42..45])
+}

@@ -1,0 +1,62 @@
+//! A register and its HGC on disk: they stand or fall together, since a provider applies what the HGC says.
+//!
+//! Both are written beside their places and synced first. The rename of the register is the moment at which the import
+//! counts. What a stop in between leaves is undone before that moment and finished after it, by the next start.
+
+pub mod disk;
+pub mod journal;
+pub mod lock;
+pub mod note;
+pub mod place;
+
+use std::io;
+use std::path::Path;
+
+pub use disk::{Disk, Real};
+use lock::Lock;
+pub use place::Place;
+
+/// A register's place, locked, with nothing left over from an earlier stop.
+pub struct Held<'a> {
+    disk: &'a dyn Disk,
+    place: Place,
+    _lock: Lock,
+}
+
+impl<'a> Held<'a> {
+    /// Waits as long as another holds it.
+    pub fn take(disk: &'a dyn Disk, place: Place) -> io::Result<Held<'a>> {
+        let lock = lock::take(&place)?;
+        journal::recover(disk, &place)?;
+        Ok(Held { disk, place, _lock: lock })
+    }
+
+    pub fn read(&self) -> io::Result<Vec<u8>> {
+        self.disk.read(self.place.path())
+    }
+
+    pub fn is_there(&self) -> io::Result<bool> {
+        self.disk.exists(self.place.path())
+    }
+
+    pub fn replace(&self, register: &[u8], hgc: Option<(&Place, &[u8])>) -> io::Result<()> {
+        journal::replace(self.disk, &self.place, register, hgc)
+    }
+}
+
+/// Finishes or undoes what a stop left, for one who only reads. The register is whole at any moment, so that he needs
+/// no lock: where another holds it, that other is at work and nothing was left.
+pub fn tidy(disk: &dyn Disk, place: &Place) -> io::Result<()> {
+    if !journal::is_left(disk, place)? {
+        return Ok(());
+    }
+    match lock::try_take(place)? {
+        Some(_lock) => journal::recover(disk, place),
+        None => Ok(()),
+    }
+}
+
+/// Whole or not at all, with nothing that stands or falls with it.
+pub fn write_alone(disk: &dyn Disk, path: &Path, bytes: &[u8]) -> io::Result<()> {
+    journal::replace(disk, &Place::of_file(path)?, bytes, None)
+}

@@ -1,0 +1,28 @@
+//! The command, and how it keeps its files: through stops at every step, faults, and two at once.
+
+#[path = "command/answers.rs"]
+mod answers;
+#[path = "command/common.rs"]
+mod common;
+#[path = "command/demo.rs"]
+mod demo;
+#[path = "command/faults.rs"]
+mod faults;
+#[path = "command/hooked.rs"]
+mod hooked;
+#[path = "command/issuers.rs"]
+mod issuers;
+#[path = "command/killed.rs"]
+mod killed;
+#[path = "command/lookups.rs"]
+mod lookups;
+#[path = "command/model.rs"]
+mod model;
+#[path = "command/power.rs"]
+mod power;
+#[path = "command/provider.rs"]
+mod provider;
+#[path = "command/steps.rs"]
+mod steps;
+#[path = "command/together.rs"]
+mod together;

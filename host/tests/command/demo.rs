@@ -1,0 +1,17 @@
+//! The demo ends as it says.
+
+use crate::common::*;
+
+#[test]
+fn demo_in_a_folder_and_without_one() {
+    let folder = Folder::new();
+    let told = graftspindle(&folder, "demo @kept");
+    assert_eq!((told.status, told.fault.as_str()), (0, ""));
+    assert!(told.said.contains("rejected 02: PAN number not valid"));
+    let last = told.said.lines().last().expect("it says something");
+    assert!(last.starts_with("The copy of provider 900123 equals the records held for him: 3 records"), "{last}");
+    assert!(exists(&folder, "kept/register") && exists(&folder, "kept/900123-full.hgc"));
+    let again = graftspindle(&folder, "demo");
+    assert_eq!((again.status, again.said), (0, told.said));
+    assert_eq!(graftspindle(&folder, "demo @kept").status, 1, "nothing is overwritten");
+}
