@@ -1,0 +1,45 @@
+// What is asked of a field, by its tag.
+const NO: u64 = 100;
+
+const YES: u64 = 101;
+
+pub fn told(holds: bool) -> u64 {
+    if holds { YES } else { NO }
+}
+
+fn of_time(tag: &[u8], f: &[u8], samples: &[u8; 33280]) -> u64 {
+    if texts::same(tag, b"time    ") {
+        return told(times::is_real_time(f));
+    }
+    if texts::same(tag, b"date    ") {
+        return told(times::is_real_date(f));
+    }
+    crate::line::of_line(tag, f, samples)
+}
+
+fn of_plate(tag: &[u8], f: &[u8], samples: &[u8; 33280]) -> u64 {
+    if texts::same(tag, b"plate   ") {
+        return told(plates::is_plate(f));
+    }
+    if texts::same(tag, b"nation  ") {
+        return told(plates::is_nationality(f));
+    }
+    if texts::same(tag, b"separate") {
+        let k = plates::plate_characters(texts::field(f, 1, 10));
+        return told(plates::is_separator(texts::field(f, 11, 65536), k));
+    }
+    of_time(tag, f, samples)
+}
+
+pub fn answer(tag: &[u8], f: &[u8], samples: &[u8; 33280]) -> u64 {
+    if texts::same(tag, b"luhn    ") {
+        return told(pans::is_luhn(f));
+    }
+    if texts::same(tag, b"pan     ") {
+        return told(pans::is_pan(f));
+    }
+    if texts::same(tag, b"rows    ") {
+        return told(issuers::are_rows(f));
+    }
+    of_plate(tag, f, samples)
+}

@@ -1,0 +1,112 @@
+// An import, from one line: mode, reception, rows, register and HGV by their letters, the length of the HGC's buffer, the
+// HGV's where it is not its own, and a place of the HGV changed. Answered are the four numbers and, where the first is 0,
+// the register after it and the HGC.
+ghost use Prim.Native.Nat.{_≤_};
+ghost use lib.ListN.{length};
+use crate::blocks::at_most;
+use crate::blocks::lay_file;
+use crate::blocks::lay_parts;
+use crate::blocks::number_in;
+use importer::Imported;
+use libc::STDOUT_FILENO;
+
+// A byte that stands in none of these HGCs.
+const UNWRITTEN: u8 = 238;
+
+const ROW: usize = 24;
+
+// Has nothing been written from byte `from` on, counted from 0.
+fn is_kept(buffer: &[u8], from: usize) -> bool {
+    let mut i = from;
+    while i < buffer.len() {
+        if buffer[i] != UNWRITTEN {
+            return false;
+        }
+        i += 1;
+    }
+    true
+}
+
+// Is the register as its letters say.
+fn is_as_before(register: &[u8], f: &[u8], samples: &[u8; 33280]) -> bool {
+    let mut before = [0u8; 640];
+    let end = lay_parts(&mut before, samples, texts::field(f, 20, 23));
+    texts::same(register, &before[0..end])
+}
+
+// The row of a letter, and none for -; how many bytes it has.
+fn lay_rows(to: &mut [u8], samples: &[u8; 33280], letters: &[u8]) -> usize
+    requires { ⌜ 24 ≤ length (now to) ⌝ }
+    ensures { λ r. ⌜ r ≤ 24 ⌝ }
+{
+    let k = at_most(vectors::before(letters, b'-'), 1);
+    vectors::lay(to, 1, ROW, samples, &letters[0..k]);
+    k * ROW
+}
+
+fn imported(
+    f: &[u8],
+    samples: &[u8; 33280],
+    register: &mut [u8],
+    hgv: &[u8],
+    hgc: &mut [u8],
+) -> Imported {
+    let mut rows = [0u8; 24];
+    let end = lay_rows(&mut rows, samples, texts::field(f, 18, 18));
+    importer::import(
+        number_in(texts::field(f, 1, 1)) as u64,
+        texts::field(f, 3, 16),
+        register,
+        &rows[0..end],
+        hgv,
+        hgc,
+    )
+}
+
+// The register, the HGC, and whether the buffer behind it is as it was.
+fn tell_blocks(register: &[u8], hgc: &[u8], length: usize)
+    requires { ⌜ 1 ≤ length ⌝ }
+{
+    io::write_all(STDOUT_FILENO, b"\n");
+    crate::tell::slots(register);
+    io::write_all(STDOUT_FILENO, texts::field(hgc, 1, length));
+    crate::tell::kept(is_kept(hgc, length));
+}
+
+fn with_blocks(f: &[u8], samples: &[u8; 33280], register: &mut [u8], hgv: &[u8], hgc: &mut [u8]) {
+    let r = imported(f, samples, register, hgv, hgc);
+    crate::tell::numbers(r.number, r.taken, r.rejected, r.length);
+    if r.length == 0 {
+        io::write_all(STDOUT_FILENO, b" ");
+        crate::tell::kept(is_as_before(register, f, samples) & is_kept(hgc, 0));
+        return;
+    }
+    tell_blocks(register, hgc, r.length as usize);
+}
+
+fn with_file(f: &[u8], samples: &[u8; 33280], hgv: &[u8]) {
+    let mut register = [0u8; 640];
+    let mut hgc = [UNWRITTEN; 704];
+    let end = lay_parts(&mut register, samples, texts::field(f, 20, 23));
+    let room = at_most(number_in(texts::field(f, 31, 34)), 704);
+    with_blocks(f, samples, &mut register[0..end], hgv, &mut hgc[0..room]);
+}
+
+// The length that is asked for, or where that is 0, the file's own.
+fn sent_length(asked: usize, own: usize) -> usize
+    requires { ⌜ 1 ≤ own ⌝ }
+    ensures { λ r. ⌜ 1 ≤ r ⌝ }
+{
+    if asked == 0 {
+        return own;
+    }
+    asked
+}
+
+pub fn of_import(f: &[u8], samples: &[u8; 33280]) {
+    let mut hgv = [0u8; 704];
+    let own = lay_file(&mut hgv, samples, texts::field(f, 25, 29));
+    vectors::change(&mut hgv, texts::field(f, 41, 65536));
+    let length = sent_length(number_in(texts::field(f, 36, 39)), own);
+    with_file(f, samples, texts::field(&hgv, 1, length));
+}

@@ -1,0 +1,67 @@
+// Blocks of the largest size.
+ghost use Prim.Native.Nat.{_≤_};
+ghost use lib.ListN.{length};
+use crate::blocks::PART;
+use crate::blocks::at_most;
+use crate::blocks::number_in;
+
+// One more than a file may have.
+const LINES: usize = 8193;
+
+// So many zero bytes as a register.
+fn tell_order(room: &[u8], n: usize) {
+    if room.len() < n {
+        return;
+    }
+    crate::tell::truth(register::in_order(&room[0..n]));
+}
+
+// One slot more than a register may have.
+fn with_room(f: &[u8], room: &[u8; 1048704]) {
+    tell_order(room, number_in(f));
+}
+
+pub fn of_slots(f: &[u8]) {
+    let room = [0u8; 1048704];
+    with_room(f, &room);
+}
+
+// A file of n lines B.
+fn lay_lines(hgv: &mut [u8], samples: &[u8; 33280], n: usize)
+    requires { ⌜ (n ≤ 8193) × (1048896 ≤ length (now hgv)) ⌝ }
+{
+    let letters = [b'B'; 8193];
+    vectors::lay(hgv, 1, PART, samples, b"0");
+    vectors::lay(hgv, 129, PART, samples, &letters[0..n]);
+    vectors::lay(hgv, 129 + n * PART, 64, samples, b"T");
+    numbers::put_number(hgv, 66, 15, n as u64);
+}
+
+// Each line is to be rejected.
+fn import_lines(f: &[u8], samples: &[u8; 33280], hgv: &mut [u8], hgc: &mut [u8])
+    requires { ⌜ 1048896 ≤ length (now hgv) ⌝ }
+{
+    let n = at_most(number_in(f), LINES);
+    let mut register = [0u8; 128];
+    lay_lines(hgv, samples, n);
+    let r = importer::import(
+        1,
+        b"20250310050000",
+        &mut register,
+        b"97990012      0816900123",
+        texts::field(hgv, 1, n * PART + 192),
+        hgc,
+    );
+    crate::tell::numbers(r.number, r.taken, r.rejected, r.length);
+}
+
+// The largest HGC.
+fn with_blocks(f: &[u8], samples: &[u8; 33280], hgv: &mut [u8; 1048896], hgc: &mut [u8; 1065134]) {
+    import_lines(f, samples, hgv, hgc);
+}
+
+pub fn of_lines(f: &[u8], samples: &[u8; 33280]) {
+    let mut hgv = [0u8; 1048896];
+    let mut hgc = [0u8; 1065134];
+    with_blocks(f, samples, &mut hgv, &mut hgc);
+}

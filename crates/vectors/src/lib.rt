@@ -1,0 +1,143 @@
+// The files of vectors: where a line of one ends, texts laid out by the letters that name them, and a place changed.
+ghost use mathlib.Core.Path.{_≡_};
+ghost use mathlib.Core.Bool.{true};
+ghost use mathlib.Core.List.{map};
+ghost use Prim.Native.Nat.{_+_, _-_, _*_, _≤_};
+ghost use lib.ListN.{length, getD};
+ghost use Rattle.theory.specs.Every.{leading};
+ghost use Rattle.writing.specs.Put.{putField};
+ghost use Rattle.vectors.specs.Vectors.{other, lineEnd, marked, fits, putText, changed, kept, sample, laid};
+
+// The most bytes that a text with a letter has.
+pub const WIDTH: usize = 130;
+
+// How many bytes stand in front of the first `end`.
+pub fn before(s: &[u8], end: u8) -> usize
+    ensures { λ r. ⌜ (r ≡ leading (other end) (now (s .entry))) × (r ≤ length (now (s .entry))) ⌝ }
+{
+    let mut i: usize = 0;
+    while i < s.len() {
+        if s[i] == end {
+            return i;
+        }
+        i += 1;
+    }
+    i
+}
+
+// Where the line that starts at `from` ends, counted from 0.
+pub fn line_end(text: &[u8], from: usize) -> usize
+    requires { ⌜ from ≤ length (now text) ⌝ }
+    ensures { λ r. ⌜ (r ≡ lineEnd from (now (text .entry))) × ((from ≤ r) × (r ≤ length (now (text .entry)))) ⌝ }
+{
+    from + before(&text[from..], 10)
+}
+
+// What a byte of a vector stands for: ~ for LF, ^ for CR.
+fn marked(b: u8) -> u8
+    ensures { λ r. ⌜ r ≡ marked b ⌝ }
+{
+    if b == 126 {
+        return 10;
+    }
+    if b == 94 {
+        return 13;
+    }
+    b
+}
+
+fn copy_marked(to: &mut [u8], from: &[u8])
+    requires { ⌜ length (now to) ≡ length (now from) ⌝ }
+    ensures { λ _. ⌜ now (to .exit) ≡ map marked (now (from .entry)) ⌝ }
+{
+    let mut i: usize = 0;
+    while i < from.len() {
+        let b = marked(from[i]);
+        to[i] = b;
+        i += 1;
+    }
+}
+
+// Do n bytes from a position on lie within so many.
+fn fits(from: usize, n: usize, room: usize) -> bool
+    ensures { λ r. ⌜ r ≡ fits from n room ⌝ }
+{
+    if from == 0 {
+        return false;
+    }
+    if room < n {
+        return false;
+    }
+    from - 1 <= room - n
+}
+
+fn put_marked(to: &mut [u8], from: usize, text: &[u8])
+    requires { ⌜ (1 ≤ from) × (from - 1 + length (now text) ≤ length (now to)) ⌝ }
+    ensures { λ _. ⌜ now (to .exit) ≡ putField from (map marked (now (text .entry))) (now (to .entry)) ⌝ }
+{
+    let at = from - 1;
+    let behind = at + text.len();
+    copy_marked(&mut to[at..behind], text);
+}
+
+// A text over a block from a position on, where it lies within it.
+pub fn put_text(to: &mut [u8], from: usize, text: &[u8])
+    ensures { λ _. ⌜ now (to .exit) ≡ putText from (now (text .entry)) (now (to .entry)) ⌝ }
+{
+    if fits(from, text.len(), to.len()) {
+        put_marked(to, from, text);
+    }
+}
+
+// A change of a block: a position in three digits, a blank, and the text that goes there.
+pub fn change(to: &mut [u8], f: &[u8])
+    ensures { λ _. ⌜ now (to .exit) ≡ changed (now (f .entry)) (now (to .entry)) ⌝ }
+{
+    let from = numbers::number(texts::field(f, 1, 3)) as usize;
+    put_text(to, from, texts::field(f, 5, 65536));
+}
+
+// The byte in front, and 0 where there is none.
+fn letter_of(f: &[u8]) -> u8
+    ensures { λ r. ⌜ r ≡ getD (now (f .entry)) 0 0 ⌝ }
+{
+    if f.len() == 0 {
+        return 0;
+    }
+    f[0]
+}
+
+// A text with its letter: the letter, a blank, the text.
+pub fn keep(samples: &mut [u8], f: &[u8])
+    ensures { λ _. ⌜ now (samples .exit) ≡ kept (now (f .entry)) (now (samples .entry)) ⌝ }
+{
+    let letter = letter_of(f);
+    put_text(
+        samples,
+        letter as usize * WIDTH + 1,
+        texts::field(f, 3, 65536),
+    );
+}
+
+// The first bytes of the text that a letter names, from a position on.
+fn lay_one(to: &mut [u8], from: usize, width: usize, samples: &[u8], letter: u8)
+    requires { ⌜ ((1 ≤ from) × (from - 1 + width ≤ length (now to))) × ((width ≤ 130) × (length (now samples) ≡ 33280)) ⌝ }
+    ensures { λ _. ⌜ now (to .exit) ≡ putField from (sample width (now (samples .entry)) letter) (now (to .entry)) ⌝ }
+{
+    let text = texts::part(samples, WIDTH, letter as usize);
+    writing::put_field(to, from, &text[0..width]);
+}
+
+// The texts that the letters name, each by its first bytes, one behind the other from a position on.
+pub fn lay(to: &mut [u8], from: usize, width: usize, samples: &[u8], letters: &[u8])
+    requires { ⌜ ((1 ≤ from) × (from - 1 + length (now letters) * width ≤ length (now to))) × ((width ≤ 130) × (length (now samples) ≡ 33280)) ⌝ }
+    ensures { λ _. ⌜ now (to .exit) ≡ laid width (now (samples .entry)) from (now (letters .entry)) (now (to .entry)) ⌝ }
+{
+    let mut at = from;
+    let mut i: usize = 0;
+    while i < letters.len() {
+        lay_one(to, at, width, samples, letters[i]);
+        at += width;
+        i += 1;
+    }
+}
