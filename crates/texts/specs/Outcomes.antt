@@ -14,7 +14,7 @@ field-one text from to r s = one-outcome
 pub part-one : (width i : ℕ) (block r s : List ℕ) → r ≡ partAt width i block → s ≡ partAt width i block → r ≡ s
 part-one width i block r s = one-outcome
 
--- same, and has_text at a field
+-- two texts compared
 pub same-one : (a b : List ℕ) (r s : Bool) → r ≡ eqs a b → s ≡ eqs a b → r ≡ s
 same-one a b r s = one-outcome
 
