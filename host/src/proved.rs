@@ -5,7 +5,8 @@
 //!   differs is found by tests only;
 //! - a slice crosses as a pointer and a length of 64 bits, a `&mut u64` as a pointer, and the library believes them;
 //! - blocks that it may write must overlap no other block;
-//! - a call uses the caller's stack and does not ask whether it is there: less than 64 KiB for the largest import.
+//! - a call uses the caller's stack and does not ask whether it is there: less than 128 KiB for the largest
+//!   blocks.
 //!
 //! Here each pair comes from one slice and no two mutable borrows are alike, so the second and third hold for every safe
 //! caller. The library keeps nothing between calls.

@@ -76,14 +76,18 @@ fn update() {
     assert!(copy == imported());
 }
 
-/// The largest import, on a thread with a stack of 64 KiB.
+/// The largest files and registers, on a thread with a stack of 128 KiB.
 #[test]
 fn small_stack() {
-    let import = || {
-        let (mut register, mut hgc) = (vec![0; 8192 * 128], vec![0; 174]);
-        let rows = sample::row();
-        proved::import(2, sample::RECEPTION, &mut register, &rows, &sample::hgv(8192), &mut hgc).taken
+    let calls = || {
+        let (hgv, rows) = (sample::hgv(8192), sample::row());
+        let (mut register, mut copy, mut hgc, mut verdicts) = (vec![0; 8192 * 128], vec![0; 8192 * 128], vec![0; 174], vec![1; 8192]);
+        let taken = proved::import(2, sample::RECEPTION, &mut register, &rows, &hgv, &mut hgc).taken;
+        let again = proved::import(1, sample::RECEPTION, &mut register, &rows, &hgv, &mut hgc).taken;
+        let read = proved::read_back(&hgv, &hgc, &mut verdicts).taken;
+        let updated = proved::update(1, &mut copy, &hgv, &hgc).taken;
+        (taken, again, read, updated, copy == register)
     };
-    let thread = std::thread::Builder::new().stack_size(64 * 1024).spawn(import);
-    assert_eq!(thread.expect("a thread").join().expect("it ends"), 8192);
+    let thread = std::thread::Builder::new().stack_size(128 * 1024).spawn(calls);
+    assert_eq!(thread.expect("a thread").join().expect("it ends"), (8192, 8192, 8192, 8192, true));
 }
