@@ -48,7 +48,7 @@ fn each_case(text: &[u8]) {
     let mut samples = [0u8; 33280];
     let mut i: usize = 0;
     while i < text.len() {
-        let end = vectors::line_end(text, i);
+        let end = i + vectors::before(&text[i..], 10);
         case(&text[i..end], &mut samples);
         i = end + 1;
     }

@@ -4,9 +4,11 @@
 ghost use Prim.Native.Nat.{_≤_};
 ghost use lib.ListN.{length};
 use crate::blocks::at_most;
+use crate::blocks::is_laid;
 use crate::blocks::lay_file;
 use crate::blocks::lay_parts;
 use crate::blocks::number_in;
+use crate::blocks::sent_length;
 use importer::Imported;
 use libc::STDOUT_FILENO;
 
@@ -25,13 +27,6 @@ fn is_kept(buffer: &[u8], from: usize) -> bool {
         i += 1;
     }
     true
-}
-
-// Is the register as its letters say.
-fn is_as_before(register: &[u8], f: &[u8], samples: &[u8; 33280]) -> bool {
-    let mut before = [0u8; 640];
-    let end = lay_parts(&mut before, samples, texts::field(f, 20, 23));
-    texts::same(register, &before[0..end])
 }
 
 // The row of a letter, and none for -; how many bytes it has.
@@ -75,10 +70,11 @@ fn tell_blocks(register: &[u8], hgc: &[u8], length: usize)
 
 fn with_blocks(f: &[u8], samples: &[u8; 33280], register: &mut [u8], hgv: &[u8], hgc: &mut [u8]) {
     let r = imported(f, samples, register, hgv, hgc);
-    crate::tell::numbers(r.number, r.taken, r.rejected, r.length);
+    crate::tell::counts(r.number, r.taken, r.rejected);
+    crate::tell::number(r.length);
     if r.length == 0 {
         io::write_all(STDOUT_FILENO, b" ");
-        crate::tell::kept(is_as_before(register, f, samples) & is_kept(hgc, 0));
+        crate::tell::kept(is_laid(register, samples, texts::field(f, 20, 23)) & is_kept(hgc, 0));
         return;
     }
     tell_blocks(register, hgc, r.length as usize);
@@ -92,21 +88,10 @@ fn with_file(f: &[u8], samples: &[u8; 33280], hgv: &[u8]) {
     with_blocks(f, samples, &mut register[0..end], hgv, &mut hgc[0..room]);
 }
 
-// The length that is asked for, or where that is 0, the file's own.
-fn sent_length(asked: usize, own: usize) -> usize
-    requires { ⌜ 1 ≤ own ⌝ }
-    ensures { λ r. ⌜ 1 ≤ r ⌝ }
-{
-    if asked == 0 {
-        return own;
-    }
-    asked
-}
-
 pub fn of_import(f: &[u8], samples: &[u8; 33280]) {
     let mut hgv = [0u8; 704];
     let own = lay_file(&mut hgv, samples, texts::field(f, 25, 29));
     vectors::change(&mut hgv, texts::field(f, 41, 65536));
-    let length = sent_length(number_in(texts::field(f, 36, 39)), own);
+    let length = sent_length(texts::field(f, 36, 39), own);
     with_file(f, samples, texts::field(&hgv, 1, length));
 }

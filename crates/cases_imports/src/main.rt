@@ -1,6 +1,6 @@
-// Runs the vectors on registers, lookups and imports, from the document and docs/DECISIONS.md. `stdin` has one a line: what
-// is asked in eight characters, a blank, and what it is asked of; `stdout` has the same lines, each with its answer. A line
-// that begins with # is a note, and `text` gives the text that a letter names.
+// Runs the vectors on registers, lookups, imports and the provider's side, from the document and docs/DECISIONS.md. `stdin`
+// has one a line: what is asked in eight characters, a blank, and what it is asked of; `stdout` has the same lines, each
+// with its answer. A line that begins with # is a note, and `text` gives the text that a letter names.
 use libc::STDIN_FILENO;
 use libc::STDOUT_FILENO;
 
@@ -8,7 +8,20 @@ mod blocks;
 mod found;
 mod imports;
 mod many;
+mod pairs;
 mod tell;
+
+fn of_pair(tag: &[u8], f: &[u8], samples: &[u8; 33280]) {
+    if texts::same(tag, b"readback") {
+        pairs::of_read(f, samples);
+        return;
+    }
+    if texts::same(tag, b"update  ") {
+        pairs::of_update(f, samples);
+        return;
+    }
+    found::of_register(tag, f, samples);
+}
 
 fn of_block(tag: &[u8], f: &[u8], samples: &[u8; 33280]) {
     if texts::same(tag, b"import  ") {
@@ -23,7 +36,7 @@ fn of_block(tag: &[u8], f: &[u8], samples: &[u8; 33280]) {
         many::of_slots(f);
         return;
     }
-    found::of_register(tag, f, samples);
+    of_pair(tag, f, samples);
 }
 
 fn answer(line: &[u8], samples: &mut [u8; 33280]) {
@@ -49,7 +62,7 @@ fn each_case(text: &[u8]) {
     let mut samples = [0u8; 33280];
     let mut i: usize = 0;
     while i < text.len() {
-        let end = vectors::line_end(text, i);
+        let end = i + vectors::before(&text[i..], 10);
         case(&text[i..end], &mut samples);
         i = end + 1;
     }

@@ -52,7 +52,8 @@ fn import_lines(f: &[u8], samples: &[u8; 33280], hgv: &mut [u8], hgc: &mut [u8])
         texts::field(hgv, 1, n * PART + 192),
         hgc,
     );
-    crate::tell::numbers(r.number, r.taken, r.rejected, r.length);
+    crate::tell::counts(r.number, r.taken, r.rejected);
+    crate::tell::number(r.length);
 }
 
 // The largest HGC.

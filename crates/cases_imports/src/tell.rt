@@ -16,12 +16,11 @@ pub fn number(n: u64) {
     io::print_decimal(STDOUT_FILENO, n);
 }
 
-pub fn numbers(number: u64, taken: u64, rejected: u64, length: u64) {
+pub fn counts(number: u64, taken: u64, rejected: u64) {
     io::write_all(STDOUT_FILENO, b" ->");
     crate::tell::number(number);
     crate::tell::number(taken);
     crate::tell::number(rejected);
-    crate::tell::number(length);
 }
 
 fn slot(slot: &[u8]) {

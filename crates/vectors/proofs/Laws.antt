@@ -10,12 +10,11 @@ use lib.ListN.{length, take, drop, getD, set, length-append, length-take, length
 use lib.Seq.{take-all, take-suc, take-suc-set, drop-cons}
 use borrow.Author.Tests.{eq-eqb, ne-eqb, le-leb, lt-leb, leb-true}
 use Rattle.theory.specs.Truth.{same-truth, and-both, and-left, and-right}
-use Rattle.theory.specs.Every.{leading, leading-most}
 use Rattle.theory.specs.Parts.{partAt, part-fits}
 use Rattle.texts.specs.Field.{field}
 use Rattle.numbers.specs.Number.{number}
 use Rattle.writing.specs.Put.{putField}
-use Rattle.vectors.specs.Vectors.{other, lineEnd, marked, fits, putText, changed, kept, sample, laid}
+use Rattle.vectors.specs.Vectors.{other, marked, fits, putText, changed, kept, sample, laid}
 
 -- ---- a text copied: the first i bytes are
 
@@ -57,15 +56,6 @@ other-end end b h = rw (eq-eqb b end h)
 
 pub other-on : (end b : ℕ) → (b ≡ end → ⊥) → true ≡ other end b
 other-on end b h = rw (ne-eqb b end h)
-
--- the rest of a text, as the code lends it
-pub rest-ends : (from n : ℕ) (text : List ℕ) → from ≤ length text → n ≡ leading (other 10) (take (length text - from) (drop from text))
-    → (from + n ≡ lineEnd from text) × ((from ≤ from + n) × (from + n ≤ length text))
-unfolding lineEnd
-rest-ends from n text h e =
-    let l : length (drop from text) ≡ length text - from = rw length-drop in
-    let k : n ≡ leading (other 10) (drop from text) = e ∙ rw (take-all (length text - from) (drop from text) (omega arith)) in
-    (rw k, (omega arith, omega (arith, k, leading-most (other 10) (drop from text))))
 
 -- ---- where a text fits
 

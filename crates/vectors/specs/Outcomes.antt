@@ -4,18 +4,12 @@ use mathlib.Core.List.{List}
 use Prim.Native.Nat.{ℕ}
 use Rattle.theory.specs.Outcome.{one-outcome}
 use Rattle.theory.specs.Every.{leading}
-use Rattle.vectors.specs.Vectors.{other, lineEnd, putText, changed, kept, laid}
+use Rattle.vectors.specs.Vectors.{other, changed, kept, laid}
 
 pub before-one : (end : ℕ) (f : List ℕ) (r s : ℕ) → r ≡ leading (other end) f → s ≡ leading (other end) f → r ≡ s
 before-one end f r s = one-outcome
 
-pub line-one : (from : ℕ) (f : List ℕ) (r s : ℕ) → r ≡ lineEnd from f → s ≡ lineEnd from f → r ≡ s
-line-one from f r s = one-outcome
-
--- the block after put_text, after change, after keep, and after lay
-pub put-one : (from : ℕ) (t b r s : List ℕ) → r ≡ putText from t b → s ≡ putText from t b → r ≡ s
-put-one from t b r s = one-outcome
-
+-- the block after change, after keep, and after lay
 pub change-one : (f b r s : List ℕ) → r ≡ changed f b → s ≡ changed f b → r ≡ s
 change-one f b r s = one-outcome
 

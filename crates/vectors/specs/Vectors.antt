@@ -4,8 +4,7 @@ use mathlib.Core.Bool.{Bool, not, cond, _&&_}
 use mathlib.Core.List.{List, [], _∷_, map}
 use Prim.Native.Nat.{ℕ, _+_, _-_, _*_}
 use lib.Dec.{eqb, leb}
-use lib.ListN.{length, take, drop, getD}
-use Rattle.theory.specs.Every.{leading}
+use lib.ListN.{length, take, getD}
 use Rattle.theory.specs.Parts.{partAt}
 use Rattle.texts.specs.Field.{field}
 use Rattle.numbers.specs.Number.{number}
@@ -13,10 +12,6 @@ use Rattle.writing.specs.Put.{putField}
 
 abbrev pub other : ℕ → ℕ → Bool
 other end b = not (eqb b end)
-
--- where the line that starts at a place ends: at its LF, or behind the text
-unfoldable pub lineEnd : ℕ → List ℕ → ℕ
-lineEnd from text = from + leading (other 10) (drop from text)
 
 -- ~ stands for LF, ^ for CR
 unfoldable pub marked : ℕ → ℕ

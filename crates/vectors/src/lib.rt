@@ -1,4 +1,4 @@
-// The files of vectors: where a line of one ends, texts laid out by the letters that name them, and a place changed.
+// The files of vectors: where a part of a line ends, texts laid out by the letters that name them, and a place changed.
 ghost use mathlib.Core.Path.{_≡_};
 ghost use mathlib.Core.Bool.{true};
 ghost use mathlib.Core.List.{map};
@@ -6,7 +6,7 @@ ghost use Prim.Native.Nat.{_+_, _-_, _*_, _≤_};
 ghost use lib.ListN.{length, getD};
 ghost use Rattle.theory.specs.Every.{leading};
 ghost use Rattle.writing.specs.Put.{putField};
-ghost use Rattle.vectors.specs.Vectors.{other, lineEnd, marked, fits, putText, changed, kept, sample, laid};
+ghost use Rattle.vectors.specs.Vectors.{other, marked, fits, putText, changed, kept, sample, laid};
 
 // The most bytes that a text with a letter has.
 pub const WIDTH: usize = 130;
@@ -23,14 +23,6 @@ pub fn before(s: &[u8], end: u8) -> usize
         i += 1;
     }
     i
-}
-
-// Where the line that starts at `from` ends, counted from 0.
-pub fn line_end(text: &[u8], from: usize) -> usize
-    requires { ⌜ from ≤ length (now text) ⌝ }
-    ensures { λ r. ⌜ (r ≡ lineEnd from (now (text .entry))) × ((from ≤ r) × (r ≤ length (now (text .entry)))) ⌝ }
-{
-    from + before(&text[from..], 10)
 }
 
 // What a byte of a vector stands for: ~ for LF, ^ for CR.
@@ -81,7 +73,7 @@ fn put_marked(to: &mut [u8], from: usize, text: &[u8])
 }
 
 // A text over a block from a position on, where it lies within it.
-pub fn put_text(to: &mut [u8], from: usize, text: &[u8])
+fn put_text(to: &mut [u8], from: usize, text: &[u8])
     ensures { λ _. ⌜ now (to .exit) ≡ putText from (now (text .entry)) (now (to .entry)) ⌝ }
 {
     if fits(from, text.len(), to.len()) {

@@ -1,0 +1,117 @@
+// An HGV and its HGC, by their letters: the length of each where it is not its own, and a place of the HGV (V) or of the HGC
+// (C) changed. An HGC is read back into a block of so many bytes, or a copy is updated in a mode.
+ghost use Prim.Native.Nat.{_≤_};
+ghost use lib.ListN.{length};
+use crate::blocks::at_most;
+use crate::blocks::is_laid;
+use crate::blocks::lay_file;
+use crate::blocks::lay_hgc;
+use crate::blocks::lay_parts;
+use crate::blocks::number_in;
+use crate::blocks::sent_length;
+use libc::STDOUT_FILENO;
+
+// No verdict.
+const UNWRITTEN: u8 = 238;
+
+fn change_in(to: &mut [u8], pair: &[u8], file: &[u8]) {
+    if texts::same(texts::field(pair, 23, 23), file) {
+        vectors::change(to, texts::field(pair, 25, 65536));
+    }
+}
+
+// The HGV of a pair; how many bytes of it are sent.
+fn lay_sent(to: &mut [u8], samples: &[u8; 33280], pair: &[u8]) -> usize
+    requires { ⌜ 704 ≤ length (now to) ⌝ }
+    ensures { λ r. ⌜ 1 ≤ r ⌝ }
+{
+    let own = lay_file(to, samples, texts::field(pair, 1, 5));
+    change_in(to, pair, b"V");
+    sent_length(texts::field(pair, 13, 16), own)
+}
+
+// The HGC of a pair; how many bytes of it come back.
+fn lay_back(to: &mut [u8], samples: &[u8; 33280], pair: &[u8]) -> usize
+    requires { ⌜ 704 ≤ length (now to) ⌝ }
+    ensures { λ r. ⌜ 1 ≤ r ⌝ }
+{
+    let own = lay_hgc(to, samples, texts::field(pair, 7, 11));
+    change_in(to, pair, b"C");
+    sent_length(texts::field(pair, 18, 21), own)
+}
+
+fn tell_verdict(v: u8) {
+    if v == UNWRITTEN {
+        io::write_all(STDOUT_FILENO, b" kept");
+        return;
+    }
+    crate::tell::number(v as u64);
+}
+
+fn tell_verdicts(block: &[u8]) {
+    io::write_all(STDOUT_FILENO, b", block");
+    let mut i: usize = 0;
+    while i < block.len() {
+        tell_verdict(block[i]);
+        i += 1;
+    }
+}
+
+fn read_into(block: &mut [u8], hgv: &[u8], hgc: &[u8]) {
+    let r = provider::read_back(hgv, hgc, block);
+    crate::tell::counts(r.number, r.taken, r.rejected);
+    tell_verdicts(block);
+}
+
+fn read(f: &[u8], hgv: &[u8], hgc: &[u8]) {
+    let mut block = [UNWRITTEN; 9];
+    let n = at_most(number_in(texts::field(f, 1, 1)), 9);
+    read_into(&mut block[0..n], hgv, hgc);
+}
+
+pub fn of_read(f: &[u8], samples: &[u8; 33280]) {
+    let mut hgv = [0u8; 704];
+    let mut hgc = [0u8; 704];
+    let pair = texts::field(f, 3, 65536);
+    let sent = lay_sent(&mut hgv, samples, pair);
+    let back = lay_back(&mut hgc, samples, pair);
+    read(f, texts::field(&hgv, 1, sent), texts::field(&hgc, 1, back));
+}
+
+// The copy after it; at a stop, whether it is as it was.
+fn tell_copy(number: u64, f: &[u8], samples: &[u8; 33280], copy: &[u8]) {
+    if number == 0 {
+        io::write_all(STDOUT_FILENO, b"\n");
+        crate::tell::slots(copy);
+        return;
+    }
+    io::write_all(STDOUT_FILENO, b" ");
+    crate::tell::kept(is_laid(copy, samples, texts::field(f, 3, 6)));
+}
+
+fn update_copy(f: &[u8], samples: &[u8; 33280], copy: &mut [u8], hgv: &[u8], hgc: &[u8]) {
+    let mode = number_in(texts::field(f, 1, 1)) as u64;
+    let r = provider::update(mode, copy, hgv, hgc);
+    crate::tell::counts(r.number, r.taken, r.rejected);
+    tell_copy(r.number, f, samples, copy);
+}
+
+fn update(f: &[u8], samples: &[u8; 33280], hgv: &[u8], hgc: &[u8]) {
+    let mut copy = [0u8; 640];
+    let end = lay_parts(&mut copy, samples, texts::field(f, 3, 6));
+    update_copy(f, samples, &mut copy[0..end], hgv, hgc);
+}
+
+pub fn of_update(f: &[u8], samples: &[u8; 33280]) {
+    let mut hgv = [0u8; 704];
+    let mut hgc = [0u8; 704];
+    let pair = texts::field(f, 8, 65536);
+    let sent = lay_sent(&mut hgv, samples, pair);
+    let back = lay_back(&mut hgc, samples, pair);
+    update(
+        f,
+        samples,
+        texts::field(&hgv, 1, sent),
+        texts::field(&hgc, 1, back),
+    );
+}
