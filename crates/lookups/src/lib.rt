@@ -22,9 +22,13 @@ fn is_active(r: &[u8], t: &[u8]) -> bool
 fn is_seen(r: &[u8], p: &[u8], n: &[u8], t: &[u8]) -> bool
     ensures { λ a. ⌜ a ≡ seen (now (p .entry)) (now (n .entry)) (now (t .entry)) (now (r .entry)) ⌝ }
 {
-    texts::has_text(r, columns::PLATE_FROM, columns::PLATE_TO, p)
-        & texts::has_text(r, columns::NATIONALITY_FROM, columns::NATIONALITY_TO, n)
-        & is_active(r, t)
+    if !texts::has_text(r, columns::PLATE_FROM, columns::PLATE_TO, p) {
+        return false;
+    }
+    if !texts::has_text(r, columns::NATIONALITY_FROM, columns::NATIONALITY_TO, n) {
+        return false;
+    }
+    is_active(r, t)
 }
 
 fn one(holds: bool) -> usize

@@ -31,6 +31,17 @@ fn counted(d: u64, behind: usize) -> u64
     d
 }
 
+// The last digit of a sum of two digits, without a division.
+fn last_digit(sum: u64) -> u64
+    requires { ⌜ sum < 20 ⌝ }
+    ensures { λ r. ⌜ r ≡ sum % 10 ⌝ }
+{
+    if sum < 10 {
+        return sum;
+    }
+    sum - 10
+}
+
 // The Luhn sum, of which only the last digit is kept.
 fn luhn_sum(digits: &[u8]) -> u64
     requires { ⌜ all digit (now digits) ≡ true ⌝ }
@@ -41,7 +52,7 @@ fn luhn_sum(digits: &[u8]) -> u64
     let mut i: usize = 0;
     while i < n {
         let d = (digits[i] - 48) as u64;
-        sum = (sum + counted(d, n - 1 - i)) % 10;
+        sum = last_digit(sum + counted(d, n - 1 - i));
         i += 1;
     }
     sum

@@ -8,21 +8,17 @@ use lib.Dec.{eqb, leb}
 use lib.ListN.{length, getD}
 use borrow.Author.Tests.{le-leb, lt-leb, leb-true}
 use Rattle.theory.specs.Truth.{same-truth}
-use Rattle.theory.specs.Table.{tableOf, entry}
-use Rattle.plates.specs.Plate.{allowed}
-
--- an entry is '1' where its place is a byte that a plate may hold, else '0'
-unfoldable pub mark : ℕ → ℕ
-mark b = cond (allowed b) 49 48
+use Rattle.theory.specs.Table.{entry}
+use Rattle.plates.specs.Plate.{allowed, allowedMark, allowedTable}
 
 flag : (t : Bool) → eqb (cond t 49 48) 49 ≡ t
 flag true = refl
 flag false = refl
 
 -- T5: the rule of the table at each of its 256 entries
-pub judged : (b : ℕ) → b < 256 → eqb (getD (tableOf mark 256) b 0) 49 ≡ allowed b
-unfolding mark
-judged b h = ap (λ (x : ℕ). eqb x 49) (entry mark 256 b h) ∙ flag (allowed b)
+pub judged : (t : List ℕ) → t ≡ allowedTable → (b : ℕ) → b < 256 → eqb (getD t b 0) 49 ≡ allowed b
+unfolding allowedTable allowedMark
+judged t e b h = rw e (ap (λ (x : ℕ). eqb x 49) (entry allowedMark 256 b h) ∙ flag (allowed b))
 
 -- the separators' tests as they are written for every number
 pub next-same : (q k : ℕ) → 0 < q → leb (q - 1) k ≡ leb q (k + 1)

@@ -3,7 +3,7 @@ ghost use mathlib.Core.Path.{_≡_};
 ghost use Prim.Native.Nat.{_+_};
 ghost use Rattle.theory.specs.Every.{leading};
 ghost use lib.Dec.{leb};
-ghost use Rattle.plates.specs.Plate.{allowed, plate, nationality, separated, separator};
+ghost use Rattle.plates.specs.Plate.{allowed, allowedTable, plate, nationality, separated, separator};
 
 const PLATE_LENGTH: usize = 10;
 
@@ -26,23 +26,33 @@ const ALLOWED: [u8; 256] = *b"\
 0000100000000000\
 0000000000001000";
 
-fn is_allowed(b: u8) -> bool
+fn admits(table: &[u8; 256], b: u8) -> bool
+    requires { ⌜ now table ≡ allowedTable ⌝ }
     ensures { λ r. ⌜ r ≡ allowed b ⌝ }
 {
-    ALLOWED[b as usize] == 49
+    table[b as usize] == 49
 }
 
-pub fn plate_characters(f: &[u8]) -> usize
+// The table is lent, since a constant that is read in a loop is made anew in each turn.
+fn admitted(table: &[u8; 256], f: &[u8]) -> usize
+    requires { ⌜ now table ≡ allowedTable ⌝ }
     ensures { λ r. ⌜ r ≡ leading allowed (now (f .entry)) ⌝ }
 {
     let mut i: usize = 0;
     while i < f.len() {
-        if !is_allowed(f[i]) {
+        if !admits(table, f[i]) {
             return i;
         }
         i += 1;
     }
     i
+}
+
+pub fn plate_characters(f: &[u8]) -> usize
+    ensures { λ r. ⌜ r ≡ leading allowed (now (f .entry)) ⌝ }
+{
+    let table = ALLOWED;
+    admitted(&table, f)
 }
 
 pub fn is_plate(f: &[u8]) -> bool

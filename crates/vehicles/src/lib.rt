@@ -72,7 +72,10 @@ fn has_valid_to(l: &[u8]) -> bool
     ensures { λ r. ⌜ r ≡ validToHolds (now (l .entry)) ⌝ }
 {
     let valid_to = texts::field(l, columns::VALID_TO_FROM, columns::VALID_TO_TO);
-    fields::is_zeros(valid_to, 14) | times::is_real_time(valid_to)
+    if fields::is_zeros(valid_to, 14) {
+        return true;
+    }
+    times::is_real_time(valid_to)
 }
 
 fn has_separator(l: &[u8]) -> bool

@@ -1,7 +1,7 @@
 -- Assumes nothing.
 use borrow.Author.Needs.{needs}
-use Prim.Native.Nat.{_-_}
 use native.Mathlib.Omega.{arith}
+use Prim.Native.Nat.{_-_}
 use Rattle.pans.specs.Pan.{counted}
 use Rattle.pans.proofs.Laws.{digits-at, Summing, sum-start, sum-turn, sum-end}
 use Rattle.pans.proofs.luhn_sum.Statement.{statement}
@@ -25,8 +25,14 @@ cast-d c = omega (arith, (digits-at (c .before .before .before .before .args .di
 counted-requires : tie.Need-counted-requires Inv-loop μ-loop
 counted-requires c κs = omega (arith, (digits-at (c .before .before .before .before .args .digits .now) (c .before .before .loop .i) (c .before .before .before .before .pre) (omega arith)) .1)
 
+add-last-digit : tie.Need-add-last-digit Inv-loop μ-loop
+add-last-digit c = omega (arith, c .before .before .before .loop .inv .last, c .counted .ensures .1)
+
+last-digit-requires : tie.Need-last-digit-requires Inv-loop μ-loop
+last-digit-requires c κs = omega (arith, c .before .before .before .loop .inv .last, c .counted .ensures .1)
+
 loop-again : tie.Need-loop-again Inv-loop μ-loop
-loop-again c = sum-turn _ _ _ _ (c .before .before .before .loop .inv) (c .before .before .loop-test .taken) (c .counted .ensures .0)
+loop-again c = rw (c .last-digit .ensures) (sum-turn _ _ _ _ (c .before .before .before .before .loop .inv) (c .before .before .before .loop-test .taken) (c .before .counted .ensures .0))
 
 returns : tie.Need-returns Inv-loop μ-loop
 returns c = sum-end _ _ _ (c .before .loop .inv) (c .loop-test .left)
@@ -44,7 +50,8 @@ luhn-sum-spec =
     (λ c. search needs)
     (λ c. search needs)
     counted-requires
-    (λ c. search needs)
+    add-last-digit
+    last-digit-requires
     (λ c. search needs)
     (λ c. search needs)
     loop-again
