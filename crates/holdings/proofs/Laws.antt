@@ -4,9 +4,9 @@ use mathlib.Core.Bool.{Bool, true, false, not, _&&_}
 use mathlib.Core.List.{List}
 use Prim.Native.Nat.{ℕ, _+_, _-_, _≤_, _<_}
 use native.Mathlib.Omega.{arith}
-use lib.Dec.{ltb}
+use lib.Dec.{ltb, leb}
 use lib.ListN.{length}
-use borrow.Author.Tests.{lt-ltb, le-ltb, eq-eqb, ne-eqb}
+use borrow.Author.Tests.{lt-ltb, le-ltb, le-leb, lt-leb, eq-eqb, ne-eqb}
 use Rattle.theory.specs.Walk.{some}
 use Rattle.theory.specs.Count.{bump}
 use Rattle.theory.specs.Keep.{sift, sift-counts}
@@ -15,22 +15,23 @@ use Rattle.theory.specs.Pick.{good, good-no, pick}
 use Rattle.theory.specs.Tally.{tally, tally-pick, tallies}
 use Rattle.theory.specs.Place.{place-some}
 use Rattle.columns.specs.Columns.{panOf}
-use Rattle.register.specs.Register.{slotLength, slotsIn, slotsOf, records, usedIn, usedPart}
+use Rattle.register.specs.Register.{slotLength, slotsMost, slotsIn, slotsOf, records, usedIn, usedPart}
 use Rattle.register.specs.Laws.{used-slots, slots-used}
 use Rattle.register.specs.Search.{holdsPan, placeOf, of, countOf}
 use Rattle.holdings.specs.Holdings.{others, isFull}
 use Rattle.holdings.specs.Storing.{isNew}
 use Rattle.holdings.specs.Room.{usedAfter}
+use Rattle.holdings.specs.AtOnce.{atOnce}
 
 pub length-slots : (b : List ℕ) → length (slotsOf b) ≡ slotsIn b
 unfolding slotsOf
 length-slots b = length-chop slotLength (slotsIn b) b
 
--- i is the place that a search for the PAN p of the line l found
-module _ (b l p : List ℕ) (e : p ≡ panOf l) (i : ℕ) (f : i ≡ placeOf p (slotsOf b)) where
+-- i is the place of the PAN of the line l
+module _ (b l : List ℕ) (i : ℕ) (f : i ≡ placeOf (panOf l) (slotsOf b)) where
   held-is : some (holdsPan (panOf l)) (slotsOf b) ≡ ltb i (slotsIn b)
   unfolding placeOf
-  held-is = place-some (holdsPan (panOf l)) (slotsOf b) ∙ rw (length-slots b, f, e)
+  held-is = place-some (holdsPan (panOf l)) (slotsOf b) ∙ rw (length-slots b, f)
 
   -- v is the line's verdict
   pub counts-held : (v : ℕ) → i < slotsIn b → 0 ≡ bump (good v && isNew (slotsOf b) l) 0
@@ -44,6 +45,10 @@ module _ (b l p : List ℕ) (e : p ≡ panOf l) (i : ℕ) (f : i ≡ placeOf p (
   pub counts-new : (v : ℕ) → v ≡ 0 → slotsIn b ≤ i → 1 ≡ bump (good v && isNew (slotsOf b) l) 0
   unfolding bump good
   counts-new v z h = rw (z, held-is, le-ltb i (slotsIn b) h)
+
+pub counts-good : (v : ℕ) → v ≡ 0 → good v ≡ true
+unfolding good
+counts-good v z = rw z
 
 pub counts-rejected : (v : ℕ) (n : Bool) → (v ≡ 0 → ⊥) → 0 ≡ bump (good v && n) 0
 unfolding bump
@@ -86,3 +91,17 @@ module _ (b held : List ℕ) (e : held ≡ usedPart b) where
       → slotsIn held + k ≡ usedAfter mode who (records b) (pick good vs (chop 128 (length vs) lines))
   unfolding usedAfter isFull
   incremental-used mode m who vs lines k g = sym (rw (ne-eqb mode 2 m, ← held-slots, ← g, length-slots held))
+
+-- ---- many lines at once
+
+pub none-at-once : (slots lines : ℕ) → leb slots slotsMost ≡ false → 0 ≡ atOnce slots lines
+unfolding atOnce
+none-at-once slots lines h = rw h
+
+pub all-at-once : (slots lines : ℕ) → leb slots slotsMost ≡ true → lines ≤ slotsMost → lines ≡ atOnce slots lines
+unfolding atOnce
+all-at-once slots lines h l = rw (h, le-leb lines slotsMost l)
+
+pub most-at-once : (slots lines : ℕ) → leb slots slotsMost ≡ true → slotsMost < lines → slotsMost ≡ atOnce slots lines
+unfolding atOnce
+most-at-once slots lines h l = rw (h, lt-leb lines slotsMost l)

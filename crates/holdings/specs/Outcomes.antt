@@ -4,6 +4,13 @@ use mathlib.Core.List.{List}
 use Prim.Native.Nat.{ℕ}
 use Rattle.theory.specs.Outcome.{one-outcome}
 use Rattle.holdings.specs.Room.{usedAfter}
+use Rattle.holdings.specs.AtOnce.{placesIn, atOnce}
 
 pub used-one : (mode : ℕ) (who : List ℕ) (R ls : List (List ℕ)) (r s : ℕ) → r ≡ usedAfter mode who R ls → s ≡ usedAfter mode who R ls → r ≡ s
 used-one mode who R ls r s = one-outcome
+
+pub at-once-one : (slots lines r s : ℕ) → r ≡ atOnce slots lines → s ≡ atOnce slots lines → r ≡ s
+at-once-one slots lines r s = one-outcome
+
+pub places-one : (R : List (List ℕ)) (lines vs : List ℕ) (m : ℕ) (r s : List ℕ) → r ≡ placesIn R lines vs m → s ≡ placesIn R lines vs m → r ≡ s
+places-one R lines vs m r s = one-outcome

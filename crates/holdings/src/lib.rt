@@ -1,16 +1,19 @@
 // What the register then holds: how many slots are used when taken lines have been applied to it (stop 33).
 ghost use mathlib.Core.Path.{_≡_};
-ghost use mathlib.Core.Bool.{_&&_};
-ghost use Prim.Native.Nat.{_*_, _≤_};
-ghost use lib.ListN.{length};
+ghost use mathlib.Core.Bool.{true, _&&_};
+ghost use Prim.Native.Nat.{_*_, _≤_, _<_};
+ghost use lib.ListN.{length, getD};
 ghost use Rattle.theory.specs.Parts.{chop};
 ghost use Rattle.theory.specs.Count.{bump};
 ghost use Rattle.theory.specs.Keep.{sift};
 ghost use Rattle.theory.specs.Pick.{good, pick};
 ghost use Rattle.hgv.specs.Layout.{lineLength};
-ghost use Rattle.register.specs.Register.{records, slotsOf};
+ghost use Rattle.columns.specs.Columns.{panOf};
+ghost use Rattle.register.specs.Register.{slotsMost, slotsIn, slotsOf, records};
+ghost use Rattle.register.specs.Search.{placeOf};
 ghost use Rattle.holdings.specs.Storing.{isNew};
 ghost use Rattle.holdings.specs.Room.{usedAfter};
+ghost use Rattle.holdings.specs.AtOnce.{placesIn, Told, atOnce};
 
 const FULL: u64 = 2;
 
@@ -18,32 +21,91 @@ const SLOT: usize = 128;
 
 const LINE: usize = 128;
 
+const SLOTS: usize = 8192;
+
+// Of how many lines the places are found at once.
+pub fn at_once(slots: usize, lines: usize) -> usize
+    ensures { λ r. ⌜ r ≡ atOnce slots lines ⌝ }
+{
+    if !(slots <= SLOTS) {
+        return 0;
+    }
+    if lines <= SLOTS { lines } else { SLOTS }
+}
+
+// Where the PANs of the taken lines stand among the slots, of as many lines as `found` has room for.
+pub fn places(held: &[u8], lines: &[u8], verdicts: &[u8], found: &mut [u16])
+    requires { ⌜ (length (now verdicts) * lineLength ≤ length (now lines)) × (length (now found) ≤ length (now verdicts)) × (0 < length (now found) → slotsIn (now held) ≤ slotsMost) ⌝ }
+    ensures { λ _. ⌜ now (found .exit) ≡ placesIn (slotsOf (now (held .entry))) (now (lines .entry)) (now (verdicts .entry)) (length (now (found .entry))) ⌝ }
+{
+    let n = held.len() / SLOT;
+    ordering::places(
+        held,
+        SLOT,
+        columns::PAN_FROM,
+        columns::PAN_TO,
+        n,
+        lines,
+        LINE,
+        verdicts,
+        found,
+    );
+}
+
+// The place of a line's PAN, as it was found or by a search.
+fn place_of(held: &[u8], l: &[u8], found: &[u16], i: usize) -> usize
+    requires { ⌜ (i < length (now found) → getD (now found) i 0 ≡ placeOf (panOf (now l)) (slotsOf (now held))) ⌝ }
+    ensures { λ r. ⌜ r ≡ placeOf (panOf (now (l .entry))) (slotsOf (now (held .entry))) ⌝ }
+{
+    if i < found.len() {
+        return ordering::place_at(found, i);
+    }
+    register::find(held, texts::field(l, columns::PAN_FROM, columns::PAN_TO))
+}
+
 // Counts a line that was taken, and whose PAN none of the slots has.
-fn count_line(held: &[u8], l: &[u8], verdict: u8) -> usize
+fn count_line(held: &[u8], l: &[u8], verdict: u8, found: &[u16], i: usize) -> usize
+    requires { ⌜ (i < length (now found) → good verdict ≡ true → getD (now found) i 0 ≡ placeOf (panOf (now l)) (slotsOf (now held))) ⌝ }
     ensures { λ r. ⌜ (r ≡ bump (good verdict && isNew (slotsOf (now (held .entry))) (now (l .entry))) 0) × (r ≤ 1) ⌝ }
 {
     if verdict != 0 {
         return 0;
     }
-    let pan = texts::field(l, columns::PAN_FROM, columns::PAN_TO);
-    if register::find(held, pan) < held.len() / SLOT {
+    if place_of(held, l, found, i) < held.len() / SLOT {
         return 0;
     }
     1
 }
 
 // How many of the taken lines are new to the slots.
-fn count_new(held: &[u8], lines: &[u8], verdicts: &[u8]) -> usize
-    requires { ⌜ length (now verdicts) * lineLength ≤ length (now lines) ⌝ }
+fn count_lines(held: &[u8], lines: &[u8], verdicts: &[u8], found: &[u16]) -> usize
+    requires { ⌜ (length (now verdicts) * lineLength ≤ length (now lines)) × Told (slotsOf (now held)) (now lines) (now verdicts) (now found) ⌝ }
     ensures { λ r. ⌜ (r ≡ length (sift (isNew (slotsOf (now (held .entry)))) (pick good (now (verdicts .entry)) (chop lineLength (length (now (verdicts .entry))) (now (lines .entry)))))) × (r ≤ length (now (verdicts .entry))) ⌝ }
 {
     let mut k: usize = 0;
     let mut i: usize = 0;
     while i < verdicts.len() {
-        k = k + count_line(held, texts::part(lines, LINE, i), verdicts[i]);
+        k = k + count_line(held, texts::part(lines, LINE, i), verdicts[i], found, i);
         i += 1;
     }
     k
+}
+
+fn count_placed(held: &[u8], lines: &[u8], verdicts: &[u8], found: &mut [u16]) -> usize
+    requires { ⌜ (length (now verdicts) * lineLength ≤ length (now lines)) × (length (now found) ≤ length (now verdicts)) × (0 < length (now found) → slotsIn (now held) ≤ slotsMost) ⌝ }
+    ensures { λ r. ⌜ (r ≡ length (sift (isNew (slotsOf (now (held .entry)))) (pick good (now (verdicts .entry)) (chop lineLength (length (now (verdicts .entry))) (now (lines .entry)))))) × (r ≤ length (now (verdicts .entry))) ⌝ }
+{
+    places(held, lines, verdicts, found);
+    count_lines(held, lines, verdicts, found)
+}
+
+fn count_new(held: &[u8], lines: &[u8], verdicts: &[u8]) -> usize
+    requires { ⌜ length (now verdicts) * lineLength ≤ length (now lines) ⌝ }
+    ensures { λ r. ⌜ (r ≡ length (sift (isNew (slotsOf (now (held .entry)))) (pick good (now (verdicts .entry)) (chop lineLength (length (now (verdicts .entry))) (now (lines .entry)))))) × (r ≤ length (now (verdicts .entry))) ⌝ }
+{
+    let k = at_once(held.len() / SLOT, verdicts.len());
+    let mut found = [0u16; SLOTS];
+    count_placed(held, lines, verdicts, &mut found[..k])
 }
 
 // How many slots are used when the taken lines have been applied.

@@ -328,3 +328,11 @@ pub fn places(
         i += 1;
     }
 }
+
+// The place that was found for the line i.
+pub fn place_at(found: &[u16], i: usize) -> usize
+    requires { ⌜ i < length (now found) ⌝ }
+    ensures { λ r. ⌜ r ≡ getD (now (found .entry)) i 0 ⌝ }
+{
+    sorting::wide(found[i])
+}

@@ -1,50 +1,31 @@
--- The invariant: k of the first i count. Assumes nothing.
-use Prim.Native.Nat.{_≤_, _-_}
-use native.Mathlib.Omega.{arith}
+-- Assumes nothing.
 use borrow.Author.Needs.{needs}
-use lib.ListN.{length}
-use Rattle.theory.specs.Parts.{part-fits}
-use Rattle.theory.specs.Among.{CountAmong, count-among-start, count-among-turn, count-among-end}
-use Rattle.register.specs.Register.{slotsOf}
-use Rattle.holdings.specs.Storing.{isNew}
+use lib.Seq.{length-take-le}
+use mathlib.Core.Path.{sym}
+use Rattle.holdings.specs.AtOnce.{at-once}
 use Rattle.holdings.proofs.count_new.Statement.{statement}
 use Rattle.holdings.proofs.count_new.Tie as tie
 
-abbrev Inv-loop : tie.InvT-loop
-Inv-loop held lines verdicts k₀ i₀ k i = (k ≤ i) × ((i ≤ length verdicts) × CountAmong (isNew (slotsOf held)) 128 (length verdicts) verdicts lines i k)
+array-borrow-prefix-found : tie.Need-array-borrow-prefix-found
+array-borrow-prefix-found c = at-once _ _ _ (c .at-once .ensures) .most
 
-abbrev μ-loop : tie.MeasureT-loop
-μ-loop held lines verdicts k₀ i₀ k i = length verdicts - i
+slice-aggregate-count-placed : tie.Need-slice-aggregate-count-placed
+slice-aggregate-count-placed c = sym (length-take-le _ _ (at-once _ _ _ (c .before .at-once .ensures) .most))
 
-loop-holds : tie.Need-loop-holds Inv-loop μ-loop
-loop-holds c = (omega arith, (omega arith, count-among-start _ _ _ _ _))
+count-placed-requires : tie.Need-count-placed-requires
+count-placed-requires c κs =
+    let k = at-once _ _ _ (c .before .at-once .ensures) in
+    rw (length-take-le _ _ (k .most)) (c .before .before .before .before .before .pre, k .within, k .few)
 
-part-requires : tie.Need-part-requires Inv-loop μ-loop
-part-requires c κs =
-    let x = c .before .before .before .before .before in
-    part-fits 128 _ (c .before .loop .i) _ (x .pre) (c .loop-test .taken)
-
-loop-again : tie.Need-loop-again Inv-loop μ-loop
-loop-again c =
-    let x = c .before .before .before .before .loop in
-    let t = c .before .before .before .loop-test .taken in
-    (omega (arith, x .inv .0, c .count-line .ensures .1), (omega (arith, t), count-among-turn _ _ _ _ _ _ _ (x .inv .1 .1) t t _ (c .before .before .part .ensures) _ (c .count-line .ensures .0)))
-
-returns : tie.Need-returns Inv-loop μ-loop
-returns c = (count-among-end _ _ _ _ _ _ _ (c .before .loop .inv .1 .1) (c .loop-test .left), omega (arith, c .before .loop .inv .0, c .before .loop .inv .1 .0))
+returns : tie.Need-returns
+returns c = c .before .count-placed .ensures
 
 pub count-new-spec : {M : Type 1} → statement M
 count-new-spec =
     tie.close
     (tie.spec
-    Inv-loop
-    μ-loop
-    loop-holds
-    part-requires
-    (λ c. search needs)
     (λ c κs. search needs)
-    (λ c. search needs)
-    (λ c. search needs)
-    (λ c. search needs)
-    loop-again
+    array-borrow-prefix-found
+    slice-aggregate-count-placed
+    count-placed-requires
     returns)
