@@ -1,15 +1,16 @@
 -- One line stored, and all of them. Assumes nothing.
 use mathlib.Core.Path.{_≡_, refl, sym, ap, _∙_}
-use mathlib.Core.Bool.{Bool, true, false, false≢true}
+use mathlib.Core.Bool.{Bool, true, false, cond, false≢true}
 use mathlib.Core.List.{List, [], _∷_, _++_, map}
 use Prim.Native.Nat.{ℕ, suc, _+_, _*_, _≤_, _<_}
 use native.Mathlib.Omega.{arith}
 use native.Mathlib.Numerals.{add-one}
 use lib.Dec.{eqb, ltb}
-use lib.ListN.{length, take, getD, length-append, length-set}
+use lib.ListN.{length, take, getD, replicate, length-append, length-set, length-replicate, getD-replicate}
+use lib.Seq.{length-take-le, getD-take}
 use borrow.Author.Tests.{eq-eqb, ne-eqb, ltb-true, ltb-false, le-ltb}
 use Rattle.theory.specs.Same.{eqs-true}
-use Rattle.theory.specs.Each.{Each, each-head, each-tail}
+use Rattle.theory.specs.Each.{Each, each-head, each-tail, each-map}
 use Rattle.theory.specs.Count.{bump}
 use Rattle.theory.specs.Walk.{some}
 use Rattle.theory.specs.Keep.{onto}
@@ -23,15 +24,55 @@ use Rattle.columns.specs.Columns.{panOf}
 use Rattle.lines.specs.Rules.{recordHolds}
 use Rattle.lines.specs.End.{recordOf}
 use Rattle.records.specs.Slot.{putRecord}
-use Rattle.register.specs.Register.{slotLength, slotsMost, slotsIn, slotsOf, records, usedPart}
+use Rattle.register.specs.Register.{slotLength, slotsMost, slotsIn, slotsOf, records, usedIn, usedPart}
 use Rattle.register.specs.Search.{holdsPan, placeOf}
-use Rattle.register.specs.Laws.{ordered, used-most, used-fits, slots-used}
-use Rattle.holdings.specs.Holdings.{stored, storedAll, holdings}
-use Rattle.holdings.specs.Storing.{stored-held, stored-new, all-grows}
+use Rattle.register.specs.Laws.{ordered, used-most, used-fits, used-slots, slots-used}
+use Rattle.holdings.specs.Holdings.{stored, storedAll, isFull, holdings}
+use Rattle.holdings.specs.AtOnce.{placesIn}
+use Rattle.holdings.specs.Storing.{stored-held, stored-new, all-grows, new-others}
 use Rattle.upkeep.specs.Stays.{Holds, written-length, written-used, written-put, as-it-is, replaced, added}
 use Rattle.applying.specs.Fit.{Fit}
+use Rattle.applying.specs.Standing.{Stands, Standing, standing-turn, Sought}
 use Rattle.applying.specs.Steps.{prepared, storedIf, Left, Ready, Storing}
 use Rattle.applying.specs.Taken.{record-pan, prepared-stored}
+
+-- ---- its slot
+
+module _ (b : List ℕ) (used : ℕ) (e : used ≡ usedIn b) (pan : List ℕ) where
+  pub used-bytes : used * slotLength ≤ length b
+  used-bytes = rw e (used-fits b)
+
+  -- u are the used slots, in which it was searched for
+  pub slot-searched : (u : List ℕ) → u ≡ take (used * slotLength) b → (i : ℕ) → i ≡ placeOf pan (slotsOf u) → i ≡ placeOf pan (records b)
+  unfolding usedPart
+  slot-searched u p i g = g ∙ rw (p, e, slots-used b)
+
+  -- f tells of it
+  pub slot-told : (first f : ℕ) → Stands first (records b) pan f → (i : ℕ) → i ≡ cond (ltb f first) f used → i ≡ placeOf pan (records b)
+  unfolding placeOf
+  slot-told first f s i g = g ∙ go (ltb f first) refl
+    where
+      go : (t : Bool) → ltb f first ≡ t → cond t f used ≡ place (holdsPan pan) (records b)
+      go true h = sym (s .held (ltb-true f first h))
+      go false h =
+          let n : ltb (place (holdsPan pan) (records b)) (length (records b)) ≡ false = sym (place-some (holdsPan pan) (records b)) ∙ s .new (ltb-false f first h) in
+          omega (arith, e, place-most (holdsPan pan) (records b), ltb-false (place (holdsPan pan) (records b)) (length (records b)) n)
+
+-- ---- the places of all
+
+pub unplaced : (mode : ℕ) (found sought : List ℕ) → mode ≡ 2 → found ≡ cond (isFull mode) found sought
+unfolding isFull
+unplaced mode found sought e = rw (eq-eqb mode 2 e)
+
+-- u are the used slots
+module _ (b : List ℕ) (used : ℕ) (e : used ≡ usedIn b) (u : List ℕ) (p : u ≡ take (used * slotLength) b) where
+  pub slots-few : used ≤ slotsMost → slotsIn u ≤ slotsMost
+  unfolding usedPart
+  slots-few l = rw (p, e, used-slots b) (omega (arith, e))
+
+  pub placed : (mode : ℕ) → (mode ≡ 2 → ⊥) → (found lines vs : List ℕ) (m : ℕ) (r : List ℕ) → r ≡ placesIn (slotsOf u) lines vs m → r ≡ cond (isFull mode) found (placesIn (records b) lines vs m)
+  unfolding isFull usedPart
+  placed mode n found lines vs m r g = g ∙ rw (ne-eqb mode 2 n, p, e, slots-used b)
 
 -- ---- one line
 
@@ -56,11 +97,6 @@ module _ (reception l b : List ℕ) (used : ℕ) (y : Ready true reception l b u
 
   abbrev R : List (List ℕ)
   R = records b
-
-  -- i is what the search in the used slots u found
-  place-is : (u : List ℕ) → u ≡ take (used * slotLength) b → (pan : List ℕ) → pan ≡ panOf l → (i : ℕ) → i ≡ placeOf pan (slotsOf u) → i ≡ placeOf (panOf x) R
-  unfolding usedPart
-  place-is u e pan f i g = g ∙ rw (e, f, y .counted, slots-used b, record-pan reception (y .received) l (y .line refl))
 
   -- one in its place
   put-held : placeOf (panOf x) R < length R → Left (slotsIn b) (stored x R) (putRecord (placeOf (panOf x) R) reception l b) (bump (eqb (placeOf (panOf x) R) used) used)
@@ -91,11 +127,15 @@ module _ (reception l b : List ℕ) (used : ℕ) (y : Ready true reception l b u
         counted = ap suc (y .counted) ∙ omega (arith, length-append R (x ∷ []));
       })
 
-  pub put-line : (u : List ℕ) → u ≡ take (used * slotLength) b → (pan : List ℕ) → pan ≡ panOf l → (i : ℕ) → i ≡ placeOf pan (slotsOf u)
+  -- i is the place of the line's PAN
+  pub put-line : (pan : List ℕ) → pan ≡ panOf l → (i : ℕ) → i ≡ placeOf pan R
       → (b′ : List ℕ) → b′ ≡ putRecord i reception l b → (r : ℕ) → r ≡ bump (eqb i used) used → Left (slotsIn b) (stored x R) b′ r
   unfolding placeOf
-  put-line u e pan f i g b′ p r n = rw (n, p, place-is u e pan f i g) (go (ltb (placeOf (panOf x) R) (length R)) refl)
+  put-line pan f i g b′ p r n = rw (n, p, place-is) (go (ltb (placeOf (panOf x) R) (length R)) refl)
     where
+      place-is : i ≡ placeOf (panOf x) R
+      place-is = g ∙ rw (f, record-pan reception (y .received) l (y .line refl))
+
       go : (t : Bool) → ltb (placeOf (panOf x) R) (length R) ≡ t → Left (slotsIn b) (stored x R) (putRecord (placeOf (panOf x) R) reception l b) (bump (eqb (placeOf (panOf x) R) used) used)
       go true h = put-held (ltb-true (placeOf (panOf x) R) (length R) h)
       go false h = put-new (omega (arith, ltb-false (placeOf (panOf x) R) (length R) h, place-most (holdsPan (panOf x)) R))
@@ -110,6 +150,10 @@ module _ (v : ℕ) (reception l b : List ℕ) (used : ℕ) (y : Ready (good v) r
   pub line-ready : v ≡ 0 → Ready true reception l b used
   unfolding good
   line-ready e = rw e at y
+
+pub line-good : (v : ℕ) → v ≡ 0 → good v ≡ true
+unfolding good
+line-good v e = rw e
 
 pub line-taken : (v : ℕ) (x : List ℕ) (R : List (List ℕ)) → v ≡ 0 → stored x R ≡ storedIf (good v) x R
 unfolding storedIf good
@@ -150,6 +194,9 @@ module _ (reception : List ℕ) (n : ℕ) (goal : List (List ℕ)) (b : List ℕ
       leads true e = e
       leads false e = e
 
+  pub storing-most : (ls : List (List ℕ)) → Storing reception n goal ls b used → used ≤ slotsMost
+  storing-most ls s = omega (arith, s .counted, used-most b, ordered b (s .order) .most)
+
   -- no byte more or less
   pub storing-length : (b₀ : List ℕ) (ls ks : List (List ℕ)) (m : ℕ) → Storing reception n goal ks b₀ m → Storing reception n goal ls b used → length b ≡ length b₀
   storing-length b₀ ls ks m s₀ s = omega (arith, ordered b₀ (s₀ .order) .whole, ordered b (s .order) .whole, s₀ .many, s .many)
@@ -175,6 +222,14 @@ module _ (reception : List ℕ) (n : ℕ) (goal : List (List ℕ)) (b : List ℕ
           → Storing reception n goal (takenFrom slotLength (length vs) vs ls (i + 1)) b′ r
       storing-turn = on-turn (good (getD vs i 0)) x _ step
 
+-- what is told of the lines behind stays as it is
+pub standing-left : (vs ls : List ℕ) (n : ℕ) (found : List ℕ) (i : ℕ) (b : List ℕ) → Standing vs ls n (records b) found i → i < length vs → (x : List ℕ) → x ≡ partAt slotLength i ls
+    → (reception : List ℕ) (used : ℕ) → Ready (good (getD vs i 0)) reception x b used
+    → (b′ : List ℕ) (r : ℕ) → Left (slotsIn b) (storedIf (good (getD vs i 0)) (recordOf reception x) (records b)) b′ r → Standing vs ls n (records b′) found (i + 1)
+standing-left vs ls n found i b s h x p reception used y b′ r w =
+    rw (w .holds .held)
+    (standing-turn vs ls n (records b) found i s h (good (getD vs i 0)) refl (recordOf reception x) (λ e. record-pan reception (y .received) x (y .line e) ∙ ap panOf p))
+
 -- ---- all of them, into what was prepared
 
 module _ (mode : ℕ) (who reception b : List ℕ) (ls : List (List ℕ)) (f : Fit mode who reception (slotsIn b) (records b) ls) (b₁ : List ℕ) (used : ℕ) (p : Left (slotsIn b) (prepared mode who (records b)) b₁ used) where
@@ -191,6 +246,18 @@ module _ (mode : ℕ) (who reception b : List ℕ) (ls : List (List ℕ)) (f : F
         lined = f .lined;
         leads = refl;
         room = rw (leads-on, p .holds .many) (f .room);
+      }
+
+  -- `found` has a number that is no place, k times
+  pub apply-sought : (k : ℕ) → k ≤ slotsMost → Sought mode (records b₁) ls (take k (replicate slotsMost slotsMost))
+  unfolding prepared
+  apply-sought k l =
+      record {
+        apart = f .apart;
+        new = λ full. each-map (λ l e. rw (p .holds .held, full) (new-others who (panOf l) (records b) e)) (f .free);
+        none = λ j h.
+            let m : j < k = omega (arith, length-take-le k (replicate slotsMost slotsMost) (rw (length-replicate slotsMost slotsMost) l)) in
+            getD-take k (replicate slotsMost slotsMost) j 0 m ∙ getD-replicate slotsMost j slotsMost 0 (omega arith);
       }
 
   pub applied : (b₂ : List ℕ) → Holds (slotsIn b₁) (storedAll (records b₁) (map (recordOf reception) ls)) b₂ → Holds (slotsIn b) (holdings mode who reception (records b) ls) b₂

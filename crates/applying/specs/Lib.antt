@@ -1,5 +1,6 @@
 pub mod Fit
 pub mod Steps
+pub mod Standing
 pub mod Taken
 pub mod Others
 pub mod Follows

@@ -1,20 +1,24 @@
 // The taken lines of a file applied to a register in place: in mode 2 the sender's records first go, then each line is
 // stored under its PAN.
 ghost use mathlib.Core.Path.{_≡_};
-ghost use mathlib.Core.Bool.{true};
+ghost use mathlib.Core.Bool.{true, cond};
 ghost use mathlib.Core.List.{map};
-ghost use Prim.Native.Nat.{_*_, _≤_};
-ghost use lib.Dec.{eqb};
-ghost use lib.ListN.{length, take};
+ghost use Prim.Native.Nat.{_*_, _≤_, _<_};
+ghost use lib.Dec.{eqb, ltb};
+ghost use lib.ListN.{length, take, getD};
 ghost use Rattle.theory.specs.Count.{bump};
 ghost use Rattle.theory.specs.Parts.{chop};
 ghost use Rattle.theory.specs.Pick.{good, pick};
+ghost use Rattle.columns.specs.Columns.{panOf};
 ghost use Rattle.lines.specs.End.{recordOf};
 ghost use Rattle.hgv.specs.Layout.{lineLength};
 ghost use Rattle.register.specs.Register.{slotLength, slotsMost, slotsIn, records, usedIn, inOrder};
-ghost use Rattle.holdings.specs.Holdings.{stored, storedAll, others, holdings};
+ghost use Rattle.register.specs.Search.{placeOf};
+ghost use Rattle.holdings.specs.Holdings.{stored, storedAll, others, isFull, holdings};
+ghost use Rattle.holdings.specs.AtOnce.{placesIn};
 ghost use Rattle.upkeep.specs.Stays.{Holds};
 ghost use Rattle.applying.specs.Fit.{Fit};
+ghost use Rattle.applying.specs.Standing.{Stands, Standing, Sought};
 ghost use Rattle.applying.specs.Steps.{markOf, prepared, storedIf, Left, Ready, Storing};
 
 const SLOT: usize = 128;
@@ -22,6 +26,9 @@ const SLOT: usize = 128;
 const SLOTS: usize = 8192;
 
 const FULL: u64 = 2;
+
+// No slot has this place.
+const NONE: u16 = 8192;
 
 fn used_of<'a>(register: &'a [u8], used: usize) -> &'a [u8]
     requires { ⌜ used * slotLength ≤ length (now register) ⌝ }
@@ -42,45 +49,133 @@ fn next_used(used: usize, i: usize) -> usize
     used
 }
 
+// The place that was found, or that behind the used slots where none is held.
+fn place_or_next(place: usize, first: usize, used: usize) -> usize
+    ensures { λ r. ⌜ r ≡ cond (ltb place first) place used ⌝ }
+{
+    if place < first { place } else { used }
+}
+
+// The slot for a PAN: as it was found among the first slots before any line was stored, or by a search.
+fn slot_for(
+    register: &[u8],
+    used: usize,
+    first: usize,
+    pan: &[u8],
+    found: &[u16],
+    i: usize,
+) -> usize
+    requires { ⌜ (used ≡ usedIn (now register)) × (i < length (now found) → Stands first (records (now register)) (now pan) (getD (now found) i 0)) ⌝ }
+    ensures { λ r. ⌜ r ≡ placeOf (now (pan .entry)) (records (now (register .entry))) ⌝ }
+{
+    if i < found.len() {
+        return place_or_next(ordering::place_at(found, i), first, used);
+    }
+    register::find(used_of(register, used), pan)
+}
+
 // A line's record in the slot that has its PAN, or in the next free one; how many slots are used then.
-fn store(register: &mut [u8], used: usize, line: &[u8], reception: &[u8]) -> usize
-    requires { ⌜ Ready true (now reception) (now line) (now register) used ⌝ }
+fn store(
+    register: &mut [u8],
+    used: usize,
+    first: usize,
+    line: &[u8],
+    reception: &[u8],
+    found: &[u16],
+    i: usize,
+) -> usize
+    requires { ⌜ Ready true (now reception) (now line) (now register) used × (i < length (now found) → Stands first (records (now register)) (panOf (now line)) (getD (now found) i 0)) ⌝ }
     ensures { λ r. ⌜ Left (slotsIn (now (register .entry))) (stored (recordOf (now (reception .entry)) (now (line .entry))) (records (now (register .entry)))) (now (register .exit)) r ⌝ }
 {
     let pan = texts::field(line, columns::PAN_FROM, columns::PAN_TO);
-    let i = register::find(used_of(register, used), pan);
-    records::put_record(register, i, line, reception);
-    next_used(used, i)
+    let slot = slot_for(register, used, first, pan, found, i);
+    records::put_record(register, slot, line, reception);
+    next_used(used, slot)
 }
 
 // The same where the line's verdict is 0; any other line is left.
-fn take_line(register: &mut [u8], used: usize, verdict: u8, line: &[u8], reception: &[u8]) -> usize
-    requires { ⌜ Ready (good verdict) (now reception) (now line) (now register) used ⌝ }
+fn take_line(
+    register: &mut [u8],
+    used: usize,
+    first: usize,
+    verdict: u8,
+    line: &[u8],
+    reception: &[u8],
+    found: &[u16],
+    i: usize,
+) -> usize
+    requires { ⌜ Ready (good verdict) (now reception) (now line) (now register) used × (i < length (now found) → good verdict ≡ true → Stands first (records (now register)) (panOf (now line)) (getD (now found) i 0)) ⌝ }
     ensures { λ r. ⌜ Left (slotsIn (now (register .entry))) (storedIf (good verdict) (recordOf (now (reception .entry)) (now (line .entry))) (records (now (register .entry)))) (now (register .exit)) r ⌝ }
 {
     if verdict != 0 {
         return used;
     }
-    store(register, used, line, reception)
+    store(register, used, first, line, reception, found, i)
 }
 
 // The taken lines, one after the other.
-fn store_all(register: &mut [u8], first: usize, lines: &[u8], verdicts: &[u8], reception: &[u8])
-    requires { ⌜ (length (now verdicts) * lineLength ≤ length (now lines)) × Storing (now reception) (slotsIn (now register)) (storedAll (records (now register)) (map (recordOf (now reception)) (pick good (now verdicts) (chop lineLength (length (now verdicts)) (now lines))))) (pick good (now verdicts) (chop lineLength (length (now verdicts)) (now lines))) (now register) first ⌝ }
+fn store_all(
+    register: &mut [u8],
+    first: usize,
+    lines: &[u8],
+    verdicts: &[u8],
+    reception: &[u8],
+    found: &[u16],
+)
+    requires { ⌜ (length (now verdicts) * lineLength ≤ length (now lines)) × Storing (now reception) (slotsIn (now register)) (storedAll (records (now register)) (map (recordOf (now reception)) (pick good (now verdicts) (chop lineLength (length (now verdicts)) (now lines))))) (pick good (now verdicts) (chop lineLength (length (now verdicts)) (now lines))) (now register) first × Standing (now verdicts) (now lines) first (records (now register)) (now found) 0 ⌝ }
     ensures { λ _. ⌜ Holds (slotsIn (now (register .entry))) (storedAll (records (now (register .entry))) (map (recordOf (now (reception .entry))) (pick good (now (verdicts .entry)) (chop lineLength (length (now (verdicts .entry))) (now (lines .entry)))))) (now (register .exit)) ⌝ }
 {
     let mut used = first;
     let mut i: usize = 0;
     while i < verdicts.len() {
+        let line = texts::part(lines, SLOT, i);
         used = take_line(
             register,
             used,
+            first,
             verdicts[i],
-            texts::part(lines, SLOT, i),
+            line,
             reception,
+            found,
+            i,
         );
         i += 1;
     }
+}
+
+// Where the lines' PANs stand. In mode 2 none is held any more, and `found` says so from the start.
+fn place_lines(
+    mode: u64,
+    register: &[u8],
+    used: usize,
+    lines: &[u8],
+    verdicts: &[u8],
+    found: &mut [u16],
+)
+    requires { ⌜ (length (now verdicts) * lineLength ≤ length (now lines)) × (length (now found) ≤ length (now verdicts)) × (used ≡ usedIn (now register)) × (used ≤ slotsMost) ⌝ }
+    ensures { λ _. ⌜ now (found .exit) ≡ cond (isFull mode) (now (found .entry)) (placesIn (records (now (register .entry))) (now (lines .entry)) (now (verdicts .entry)) (length (now (found .entry)))) ⌝ }
+{
+    if mode == FULL {
+        return;
+    }
+    holdings::places(used_of(register, used), lines, verdicts, found);
+}
+
+// The taken lines by the places of their PANs.
+fn store_placed(
+    mode: u64,
+    register: &mut [u8],
+    used: usize,
+    lines: &[u8],
+    verdicts: &[u8],
+    reception: &[u8],
+    found: &mut [u16],
+)
+    requires { ⌜ (length (now verdicts) * lineLength ≤ length (now lines)) × (length (now found) ≤ length (now verdicts)) × Storing (now reception) (slotsIn (now register)) (storedAll (records (now register)) (map (recordOf (now reception)) (pick good (now verdicts) (chop lineLength (length (now verdicts)) (now lines))))) (pick good (now verdicts) (chop lineLength (length (now verdicts)) (now lines))) (now register) used × Sought mode (records (now register)) (pick good (now verdicts) (chop lineLength (length (now verdicts)) (now lines))) (now found) ⌝ }
+    ensures { λ _. ⌜ Holds (slotsIn (now (register .entry))) (storedAll (records (now (register .entry))) (map (recordOf (now (reception .entry))) (pick good (now (verdicts .entry)) (chop lineLength (length (now (verdicts .entry))) (now (lines .entry)))))) (now (register .exit)) ⌝ }
+{
+    place_lines(mode, register, used, lines, verdicts, found);
+    store_all(register, used, lines, verdicts, reception, found);
 }
 
 fn mark_of(slot: &[u8], who: &[u8]) -> u8
@@ -147,5 +242,15 @@ pub fn apply(
     ensures { λ _. ⌜ Holds (slotsIn (now (register .entry))) (holdings mode (now (who .entry)) (now (reception .entry)) (records (now (register .entry))) (pick good (now (verdicts .entry)) (chop lineLength (length (now (verdicts .entry))) (now (lines .entry))))) (now (register .exit)) ⌝ }
 {
     let used = prepare(mode, register, who);
-    store_all(register, used, lines, verdicts, reception);
+    let k = holdings::at_once(used, verdicts.len());
+    let mut found = [NONE; SLOTS];
+    store_placed(
+        mode,
+        register,
+        used,
+        lines,
+        verdicts,
+        reception,
+        &mut found[..k],
+    );
 }

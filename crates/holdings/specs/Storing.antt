@@ -79,8 +79,24 @@ held-other p x (r ∷ R) h = go (holdsPan (panOf x) r) refl (held-other p x R h)
     go true e ih = rw (h, eqs-true (panOf r) (panOf x) e, h)
     go false e ih = rw ih
 
+-- and in its place
+pub place-other : (p x : List ℕ) (R : List (List ℕ)) → eqs (panOf x) p ≡ false → placeOf p R < length R → placeOf p (stored x R) ≡ placeOf p R
+unfolding stored storedOn placeOf place placeOn holdsPan
+place-other p x [] h l = absurd (omega arith)
+place-other p x (r ∷ R) h l = go (holdsPan (panOf x) r) refl (place-other p x R h)
+  where
+    -- m is the place behind r, and k what it was
+    behind : (c : Bool) (m k n : ℕ) → placeOn c k < suc n → (k < n → m ≡ k) → placeOn c m ≡ placeOn c k
+    behind true m k n j ih = refl
+    behind false m k n j ih = ap suc (ih (omega arith))
+
+    go : (b : Bool) → eqs (panOf r) (panOf x) ≡ b → (place (holdsPan p) R < length R → place (holdsPan p) (stored x R) ≡ place (holdsPan p) R)
+        → place (holdsPan p) (storedOn b x r R (stored x R)) ≡ placeOn (eqs (panOf r) p) (place (holdsPan p) R)
+    go true e ih = rw (h, eqs-true (panOf r) (panOf x) e, h)
+    go false e ih = behind (eqs (panOf r) p) _ _ (length R) l ih
+
 -- those with another PAN
-apart : (x : List ℕ) (xs : List (List ℕ)) → mem (panOf x) (map panOf xs) ≡ false → Each (λ y. eqs (panOf x) (panOf y) ≡ false) xs
+pub apart : (x : List ℕ) (xs : List (List ℕ)) → mem (panOf x) (map panOf xs) ≡ false → Each (λ y. eqs (panOf x) (panOf y) ≡ false) xs
 unfolding mem
 apart x [] h = none
 apart x (y ∷ xs) h = more (or-left (eqs (panOf x) (panOf y)) (mem (panOf x) (map panOf xs)) h) (apart x xs (or-right (eqs (panOf x) (panOf y)) (mem (panOf x) (map panOf xs)) h))

@@ -1,14 +1,16 @@
 -- Assumes nothing.
-use Rattle.applying.proofs.Storing.{line-left, line-ready, line-taken}
 use borrow.Author.Needs.{needs}
+use Rattle.applying.proofs.Storing.{line-left, line-ready, line-good, line-taken}
 use Rattle.applying.proofs.take_line.Statement.{statement}
 use Rattle.applying.proofs.take_line.Tie as tie
 
 returns : tie.Need-returns
-returns c = line-left _ _ _ _ _ (c .before .before .before .before .pre) (c .if1 .taken)
+returns c = line-left _ _ _ _ _ (c .before .before .before .before .before .pre .0) (c .if1 .taken)
 
 store-requires : tie.Need-store-requires
-store-requires c κs = line-ready _ _ _ _ _ (c .before .before .before .before .before .pre) (c .before .if1 .left)
+store-requires c κs =
+    let p = c .before .before .before .before .before .before .pre in
+    (line-ready _ _ _ _ _ (p .0) (c .before .if1 .left), λ h. p .1 h (line-good _ (c .before .if1 .left)))
 
 returns-2 : tie.Need-returns-2
 returns-2 c = rw (← line-taken _ _ _ (c .before .before .before .before .if1 .left)) (c .before .before .store .ensures)
