@@ -29,15 +29,26 @@ part-room w n i b h l x p e k = rw (p, length-part w i b (part-fits w n i (lengt
 
 -- ---- the order of texts
 
-less-trans : {s t u : List ℕ} → Less s t → Less t u → Less s u
+pub less-trans : {s t u : List ℕ} → Less s t → Less t u → Less s u
 less-trans (here {x = x} p) (here {y = z} q) = here {x = x} {y = z} (omega arith)
 less-trans (here p) (next q) = here p
 less-trans (next p) (here q) = here q
 less-trans (next p) (next q) = next (less-trans p q)
 
-less-no : {t : List ℕ} → Less t t → ⊥
+pub less-no : {t : List ℕ} → Less t t → ⊥
 less-no (here p) = omega arith
 less-no (next p) = less-no p
+
+-- what holds from each of m ranks to the next holds from each to any later one
+module _ (R : ℕ → ℕ → Type 0) (trans : (i j d : ℕ) → R i j → R j d → R i d) (m : ℕ) (on : (i : ℕ) → i + 1 < m → R i (i + 1)) where
+  climb : (d i : ℕ) → i + suc d < m → R i (i + suc d)
+  climb zero i l = on i l
+  climb (suc d) i l =
+      let e : i + 1 + suc d ≡ i + suc (suc d) = omega arith in
+      trans _ _ _ (on i (omega arith)) (rw e at (climb d (i + 1) (omega arith)))
+
+  pub any-two : (i j : ℕ) → i < j → j < m → R i j
+  any-two i j l h = let e : i + suc (j - i - 1) ≡ j = omega arith in rw e at (climb (j - i - 1) i (omega arith))
 
 -- the same up to the place i, and there lower
 pub less-at : (i : ℕ) (s t : List ℕ) → take i s ≡ take i t → i < length s → i < length t → getD s i 0 < getD t i 0 → Less s t
@@ -188,14 +199,8 @@ module _ (key : List ℕ → List ℕ) (w : ℕ) (b : List ℕ) (all : Bool) (vs
     step-back (stays f m h) = omega arith
 
   module _ (o k : List ℕ) (m : ℕ) (up : Rising key w b vs o m) (cover : Covers all vs o k m (length vs)) where
-    rise : (d i : ℕ) → i + suc d < m → Step key w b vs (getD o i 0) (getD o (i + suc d) 0)
-    rise zero i l = up .step i l
-    rise (suc d) i l =
-        let e : i + 1 + suc d ≡ i + suc (suc d) = omega arith in
-        step-trans _ _ _ (up .step i (omega arith)) (rw e at (rise d (i + 1) (omega arith)))
-
     between : (i j : ℕ) → i < j → j < m → Step key w b vs (getD o i 0) (getD o j 0)
-    between i j l h = let e : i + suc (j - i - 1) ≡ j = omega arith in rw e at (rise (j - i - 1) i (omega arith))
+    between = any-two (λ i j. Step key w b vs (getD o i 0) (getD o j 0)) (λ i j d. step-trans _ _ _) m (up .step)
 
     twin : (a c : ℕ) → a < c → c < length vs → Counts a → good (getD vs c 0) ≡ true → keyAt key w b c ≡ keyAt key w b a → ⊥
     twin a c l h ca g e = go (ltb x y) refl (ltb y x) refl
