@@ -18,7 +18,7 @@ use Rattle.theory.specs.Table.{tableFrom, tableOf, entry}
 use Rattle.ordering.specs.Again.{counted, keyAt}
 use Rattle.ordering.specs.Places.{hasKey, placeFor}
 use Rattle.ordering.specs.Order.{Less, Step, rises, stays, Rising, Covers, Sorted}
-use Rattle.ordering.proofs.Laws.{less-trans, less-no, any-two, good-eq}
+use Rattle.ordering.proofs.Laws.{less-trans, less-no, any-two, one-rank, good-eq}
 
 -- s is the key of the part i, and r says whether it is t
 pub key-found : (key : List ℕ → List ℕ) (w : ℕ) (b : List ℕ) (i : ℕ) (s t : List ℕ) → s ≡ keyAt key w b i → (r : Bool) → r ≡ eqs s t → r ≡ hasKey key t (partAt w i b)
@@ -83,26 +83,10 @@ module _ (key : List ℕ → List ℕ) (w : ℕ) (b : List ℕ) (n : ℕ) (t : L
     between = any-two (λ i j. Less (at i) (at j)) (λ i j d. less-trans) n (s .less)
 
     apart : (a c : ℕ) → a < c → c < n → keyAt key w b a ≡ keyAt key w b c → ⊥
-    apart a c l h e = go (ltb x y) refl (ltb y x) refl
-      where
-        x : ℕ
-        x = getD (s .ranks) a 0
-
-        y : ℕ
-        y = getD (s .ranks) c 0
-
-        at-a : (x < n) × (getD o x 0 ≡ a)
-        at-a = s .ranked a (omega arith)
-
-        at-c : (y < n) × (getD o y 0 ≡ c)
-        at-c = s .ranked c h
-
-        go : (p : Bool) → ltb x y ≡ p → (q : Bool) → ltb y x ≡ q → ⊥
-        go true p q r = less-no (rw (at-a .1, at-c .1, e) at (between x y (ltb-true x y p) (at-c .0)))
-        go false p true r = less-no (rw (at-a .1, at-c .1, e) at (between y x (ltb-true y x r) (at-a .0)))
-        go false p false r =
-            let f : x ≡ y = omega (arith, ltb-false x y p, ltb-false y x r) in
-            let d : a ≡ c = sym (at-a .1) ∙ ap (λ (i : ℕ). getD o i 0) f ∙ at-c .1 in absurd (omega arith)
+    apart a c l h e =
+        let (x, at-a) = s .ranked a (omega arith) in
+        let (y, at-c) = s .ranked c h in
+        one-rank o a c _ _ at-a at-c l (λ p. less-no (rw (at-a, at-c, e) at (between _ _ p y))) (λ p. less-no (rw (at-a, at-c, e) at (between _ _ p x)))
 
     -- the part a has the key
     pub found-here : (a : ℕ) → a < n → keyAt key w b a ≡ t → a ≡ place (hasKey key t) (chop w n b)

@@ -12,7 +12,8 @@ ghost use Rattle.ordering.specs.Again.{keyAt};
 ghost use Rattle.ordering.specs.Places.{hasKey, placeFor};
 ghost use Rattle.ordering.specs.Order.{Less, Sorted};
 
-// Sorts the places of all parts, each of which is marked 0. Are they sorted.
+// Sorts the places of all parts by their keys. Are they sorted: each part is marked 0, so that the test of the order lets
+// no key stand in it twice.
 fn sort(
     b: &[u8],
     width: usize,
@@ -34,6 +35,7 @@ fn sort(
     (found == crate::RISING) & covered
 }
 
+// The same for n parts.
 pub fn index(
     b: &[u8],
     width: usize,
@@ -95,47 +97,7 @@ fn is_here(
     texts::same(key_at(b, width, from, to, n, order, rank), t)
 }
 
-// Has it a lower one.
-fn is_lower(
-    b: &[u8],
-    width: usize,
-    from: usize,
-    to: usize,
-    n: usize,
-    order: &[u16; 8192],
-    rank: usize,
-    t: &[u8],
-) -> bool
-    requires { ⌜ (n * width ≤ length (now b)) × (1 ≤ from) × (from ≤ to) × (n ≤ 8192) ⌝ }
-    ensures { λ r. ⌜ (r ≡ true → Less (keyAt (field from to) width (now (b .entry)) (getD (now (order .entry)) rank 0)) (now (t .entry))) ⌝ }
-{
-    if !has_part(n, order, rank) {
-        return false;
-    }
-    crate::compare(key_at(b, width, from, to, n, order, rank), t) == crate::RISING
-}
-
-// Has it a higher one.
-fn is_higher(
-    b: &[u8],
-    width: usize,
-    from: usize,
-    to: usize,
-    n: usize,
-    order: &[u16; 8192],
-    rank: usize,
-    t: &[u8],
-) -> bool
-    requires { ⌜ (n * width ≤ length (now b)) × (1 ≤ from) × (from ≤ to) × (n ≤ 8192) ⌝ }
-    ensures { λ r. ⌜ (r ≡ true → Less (now (t .entry)) (keyAt (field from to) width (now (b .entry)) (getD (now (order .entry)) rank 0))) ⌝ }
-{
-    if !has_part(n, order, rank) {
-        return false;
-    }
-    crate::compare(t, key_at(b, width, from, to, n, order, rank)) == crate::RISING
-}
-
-// Stands the key t, if at all, not in front of this rank: there is none, or the one ahead is lower.
+// Is the key ahead of this rank lower than t, or is there none.
 fn is_ahead(
     b: &[u8],
     width: usize,
@@ -152,10 +114,14 @@ fn is_ahead(
     if rank == 0 {
         return true;
     }
-    is_lower(b, width, from, to, n, order, rank - 1, t)
+    let ahead = rank - 1;
+    if !has_part(n, order, ahead) {
+        return false;
+    }
+    crate::compare(key_at(b, width, from, to, n, order, ahead), t) == crate::RISING
 }
 
-// And not from this rank on.
+// Is the key at this rank higher than t, or is there none.
 fn is_behind(
     b: &[u8],
     width: usize,
@@ -172,10 +138,14 @@ fn is_behind(
     if n <= rank {
         return true;
     }
-    is_higher(b, width, from, to, n, order, rank, t)
+    if !has_part(n, order, rank) {
+        return false;
+    }
+    crate::compare(t, key_at(b, width, from, to, n, order, rank)) == crate::RISING
 }
 
-// The rank of the key t, or the one where it would stand, if the order is sorted.
+// The rank at which the key t stands or would stand, if the order is sorted. Nothing is promised of it but its size: who
+// uses it tests it.
 fn seek(
     b: &[u8],
     width: usize,
@@ -192,7 +162,7 @@ fn seek(
     let mut high = n;
     while low < high {
         let middle = low + (high - low) / 2;
-        if is_lower(b, width, from, to, n, order, middle, t) {
+        if is_ahead(b, width, from, to, n, order, middle + 1, t) {
             low = middle + 1;
         } else {
             high = middle;
@@ -216,7 +186,7 @@ fn search_for(b: &[u8], width: usize, from: usize, to: usize, n: usize, t: &[u8]
     i
 }
 
-// The same by a sorted order.
+// The same by a sorted order: the key stands at its rank, or between two neighbours and so nowhere.
 fn find_by(
     b: &[u8],
     width: usize,
@@ -241,6 +211,7 @@ fn find_by(
     search_for(b, width, from, to, n, t)
 }
 
+// The same by the order, where it is sorted.
 fn find(
     b: &[u8],
     width: usize,
