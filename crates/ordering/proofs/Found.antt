@@ -1,4 +1,4 @@
--- Where keys stand: the plain search, and a block that is filled with places. Assumes nothing.
+-- Where keys stand: by a sorted order, by the plain search, and a block that is filled with places. Assumes nothing.
 use mathlib.Core.Path.{_≡_, refl, sym, ap, _∙_}
 use mathlib.Core.Bool.{Bool, true, false, _&&_, cond, true≢false}
 use mathlib.Core.List.{List, []}

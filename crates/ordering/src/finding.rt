@@ -12,6 +12,9 @@ ghost use Rattle.ordering.specs.Again.{keyAt};
 ghost use Rattle.ordering.specs.Places.{hasKey, placeFor};
 ghost use Rattle.ordering.specs.Order.{Less, Sorted};
 
+// For fewer lines the sort takes longer than it saves.
+const FEW: usize = 32;
+
 // Sorts the places of all parts by their keys. Are they sorted: each part is marked 0, so that the test of the order lets
 // no key stand in it twice.
 fn sort(
@@ -35,18 +38,22 @@ fn sort(
     (found == crate::RISING) & covered
 }
 
-// The same for n parts.
+// The same for n parts, where so many lines are looked for that it pays.
 pub fn index(
     b: &[u8],
     width: usize,
     from: usize,
     to: usize,
     n: usize,
+    lines: usize,
     order: &mut [u16; 8192],
 ) -> bool
     requires { ⌜ (n * width ≤ length (now b)) × (1 ≤ from) × (from ≤ to) × (n ≤ 8192) ⌝ }
     ensures { λ r. ⌜ (r ≡ true → Sorted (field from to) width (now (b .entry)) (now (order .exit)) n) ⌝ }
 {
+    if lines < FEW {
+        return false;
+    }
     let marks = [0u8; 8192];
     sort(b, width, from, to, &marks[..n], order)
 }

@@ -289,7 +289,7 @@ pub fn places(
         return;
     }
     let mut order = [0u16; 8192];
-    let sorted = finding::index(b, width, from, to, n, &mut order);
+    let sorted = finding::index(b, width, from, to, n, found.len(), &mut order);
     finding::fill(
         b,
         width,
