@@ -10,13 +10,13 @@ ghost use Rattle.theory.specs.Parts.{chop};
 ghost use Rattle.theory.specs.Pick.{good, pick};
 ghost use Rattle.theory.specs.Distinct.{distinct};
 ghost use Rattle.theory.specs.Table.{tableOf};
-ghost use Rattle.theory.specs.Place.{place};
 ghost use Rattle.texts.specs.Field.{field};
 ghost use Rattle.pairing.specs.Pairing.{firsts};
 ghost use Rattle.ordering.specs.Again.{counted, keyAt, seen, again, noneAgain};
-ghost use Rattle.ordering.specs.Places.{hasKey, placeFor};
+ghost use Rattle.ordering.specs.Places.{placeFor};
 ghost use Rattle.ordering.specs.Order.{Less, Step, Rising, Covers};
 
+mod finding;
 mod sorting;
 
 // What is found of two parts, or of all neighbours in an order: they are in order, or a key stands there again, or neither
@@ -269,42 +269,6 @@ pub fn are_firsts(b: &[u8], width: usize, from: usize, to: usize, marks: &[u8]) 
     decide(b, width, from, to, marks, true)
 }
 
-// The place of the first of n parts that has the key t, or n.
-fn find(b: &[u8], width: usize, from: usize, to: usize, n: usize, t: &[u8]) -> usize
-    requires { ⌜ (n * width ≤ length (now b)) × (1 ≤ from) × (from ≤ to) ⌝ }
-    ensures { λ r. ⌜ (r ≡ place (hasKey (field from to) (now (t .entry))) (chop width n (now (b .entry)))) × (r ≤ n) ⌝ }
-{
-    let mut i: usize = 0;
-    while i < n {
-        if texts::same(key(b, width, from, to, i), t) {
-            return i;
-        }
-        i += 1;
-    }
-    i
-}
-
-// The same for the key of the line at place i, if it is marked 0.
-fn place_for(
-    b: &[u8],
-    width: usize,
-    from: usize,
-    to: usize,
-    n: usize,
-    lines: &[u8],
-    line: usize,
-    marks: &[u8],
-    i: usize,
-) -> usize
-    requires { ⌜ (n * width ≤ length (now b)) × (1 ≤ from) × (from ≤ to) × (length (now marks) * line ≤ length (now lines)) × (i < length (now marks)) ⌝ }
-    ensures { λ r. ⌜ (r ≡ placeFor (field from to) (chop width n (now (b .entry))) line (now (lines .entry)) (now (marks .entry)) i) × (r ≤ n) ⌝ }
-{
-    if marks[i] != 0 {
-        return n;
-    }
-    find(b, width, from, to, n, key(lines, line, from, to, i))
-}
-
 // Where the keys of lines stand among n parts of a block, for as many lines as `found` has room for: the key of a line
 // that is marked 0 stands at its own positions `from` to `to`.
 pub fn places(
@@ -321,12 +285,24 @@ pub fn places(
     requires { ⌜ (n * width ≤ length (now b)) × (1 ≤ from) × (from ≤ to) × (length (now marks) * line ≤ length (now lines)) × (length (now found) ≤ length (now marks)) × (0 < length (now found) → n ≤ 8192) ⌝ }
     ensures { λ _. ⌜ now (found .exit) ≡ tableOf (placeFor (field from to) (chop width n (now (b .entry))) line (now (lines .entry)) (now (marks .entry))) (length (now (found .entry))) ⌝ }
 {
-    let mut i: usize = 0;
-    while i < found.len() {
-        let at = place_for(b, width, from, to, n, lines, line, marks, i);
-        found[i] = at as u16;
-        i += 1;
+    if found.len() == 0 {
+        return;
     }
+    let mut order = [0u16; 8192];
+    let sorted = finding::index(b, width, from, to, n, found.len(), &mut order);
+    finding::fill(
+        b,
+        width,
+        from,
+        to,
+        n,
+        &order,
+        sorted,
+        lines,
+        line,
+        marks,
+        found,
+    );
 }
 
 // The place that was found for the line i.

@@ -1,60 +1,24 @@
 -- Assumes nothing.
-use Rattle.pairing.specs.Pairing.{marks}
-use Rattle.texts.specs.Field.{field}
-use Rattle.theory.specs.Parts.{chop}
 use borrow.Author.Needs.{needs}
-use lib.ListN.{length}
 use native.Mathlib.Omega.{arith}
-use Prim.Native.Nat.{_-_}
-use Rattle.ordering.specs.Places.{placeFor}
-use Rattle.ordering.proofs.Finding.{Filled, filled-start, filled-turn, filled-end}
+use Rattle.ordering.proofs.Found.{filled-none}
 use Rattle.ordering.proofs.places.Statement.{statement}
 use Rattle.ordering.proofs.places.Tie as tie
 
-abbrev Inv-loop : tie.InvT-loop
-Inv-loop b width from to n lines line marks found₀ i₀ found i = Filled (placeFor (field from to) (chop width n b) line lines marks) (length found₀) i found
+returns : tie.Need-returns
+returns c = filled-none _ _ (c .if1 .taken)
 
-abbrev μ-loop : tie.MeasureT-loop
-μ-loop b width from to n lines line marks found₀ i₀ found i = length found₀ - i
-
-loop-holds : tie.Need-loop-holds Inv-loop μ-loop
-loop-holds c = filled-start _ _
-
-place-for-requires : tie.Need-place-for-requires Inv-loop μ-loop
-place-for-requires c κs =
+index-requires : tie.Need-index-requires
+index-requires c κs =
     let p = c .before .before .before .before .before .before .pre in
-    (p .0, p .1, p .2, p .3, omega (arith, p .4, c .before .loop .inv .size, c .loop-test .taken))
+    (p .0, p .1, p .2, p .5 (omega (arith, c .before .if1 .left)))
 
-cast-found : tie.Need-cast-found Inv-loop μ-loop
-cast-found c =
-    let p = c .before .before .before .before .before .before .before .pre in
-    omega (arith, p .5 (omega (arith, c .before .before .loop .inv .size, c .before .loop-test .taken)), c .place-for .ensures .1)
-
-loop-less : tie.Need-loop-less Inv-loop μ-loop
-loop-less c = omega (arith, c .before .before .loop .inv .size, c .before .loop-test .taken)
-
-loop-again : tie.Need-loop-again Inv-loop μ-loop
-loop-again c = filled-turn _ _ _ _ (c .before .before .loop .inv) (c .before .loop-test .taken) _ (c .place-for .ensures .0)
-
-same-length : tie.Need-same-length Inv-loop μ-loop
-same-length c = c .before .loop .inv .size
-
-returns : tie.Need-returns Inv-loop μ-loop
-returns c = filled-end _ _ _ _ (c .before .loop .inv) (c .loop-test .left)
+fill-requires : tie.Need-fill-requires
+fill-requires c κs =
+    let x = c .before .before in
+    let y = x .before .before in
+    let p = y .before .before .before .before .before .pre in
+    (p .0, p .1, p .2, p .5 (omega (arith, y .if1 .left)), x .index .ensures, p .3, p .4)
 
 pub places-spec : {M : Type 1} → statement M
-places-spec =
-    tie.close
-    (tie.spec
-    Inv-loop
-    μ-loop
-    loop-holds
-    place-for-requires
-    cast-found
-    (λ c. search needs)
-    (λ c. search needs)
-    (λ c. search needs)
-    loop-less
-    loop-again
-    same-length
-    returns)
+places-spec = tie.close (tie.spec returns index-requires fill-requires (λ c. search needs) (λ c. search needs))
