@@ -6,12 +6,13 @@ use Prim.Native.Nat.{ℕ, suc, _+_, _*_, _≤_, _<_}
 use native.Mathlib.Omega.{arith}
 use native.Mathlib.Numerals.{add-one}
 use lib.Dec.{eqb, ltb}
-use lib.ListN.{length, take, getD, replicate, length-append, length-set, length-replicate, getD-replicate}
-use lib.Seq.{length-take-le, getD-take}
+use lib.ListN.{length, take, getD, replicate, length-append, length-set, getD-replicate}
+use lib.Seq.{getD-take}
 use borrow.Author.Tests.{eq-eqb, ne-eqb, ltb-true, ltb-false, le-ltb}
 use Rattle.theory.specs.Same.{eqs-true}
 use Rattle.theory.specs.Each.{Each, each-head, each-tail, each-map}
 use Rattle.theory.specs.Count.{bump}
+use Rattle.theory.specs.Table.{length-cut}
 use Rattle.theory.specs.Walk.{some}
 use Rattle.theory.specs.Keep.{onto}
 use Rattle.theory.specs.Pick.{good, pick, good-no}
@@ -256,7 +257,7 @@ module _ (mode : ℕ) (who reception b : List ℕ) (ls : List (List ℕ)) (f : F
         apart = f .apart;
         new = λ full. each-map (λ l e. rw (p .holds .held, full) (new-others who (panOf l) (records b) e)) (f .free);
         none = λ j h.
-            let m : j < k = omega (arith, length-take-le k (replicate slotsMost slotsMost) (rw (length-replicate slotsMost slotsMost) l)) in
+            let m : j < k = omega (arith, length-cut k slotsMost slotsMost l) in
             getD-take k (replicate slotsMost slotsMost) j 0 m ∙ getD-replicate slotsMost j slotsMost 0 (omega arith);
       }
 

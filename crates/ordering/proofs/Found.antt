@@ -6,7 +6,7 @@ use Prim.Native.Nat.{ℕ, zero, suc, _+_, _-_, _*_, _≤_, _<_}
 use native.Mathlib.Omega.{arith}
 use native.Mathlib.Numerals.{add-one}
 use lib.Dec.{eqb, ltb}
-use lib.ListN.{length, take, replicate, getD, set, length-set, length-take, length-replicate}
+use lib.ListN.{length, take, replicate, getD, set, length-set}
 use lib.Seq.{ext-getD, getD-set-same, getD-set-other}
 use borrow.Author.Tests.{eqb-true, eqb-false, ltb-true, ltb-false}
 use Rattle.theory.specs.Truth.{and-split}
@@ -14,7 +14,7 @@ use Rattle.theory.specs.Same.{eqs, eqs-true, eq-eqs}
 use Rattle.theory.specs.Parts.{chop, partAt, length-chop}
 use Rattle.theory.specs.Pick.{good, good-no}
 use Rattle.theory.specs.Place.{place, Placing, placing-start, placing-on, placing-off, placing-end}
-use Rattle.theory.specs.Table.{tableFrom, tableOf, entry}
+use Rattle.theory.specs.Table.{tableOf, entry, length-table}
 use Rattle.ordering.specs.Again.{counted, keyAt}
 use Rattle.ordering.specs.Places.{hasKey, placeFor}
 use Rattle.ordering.specs.Order.{Less, Step, rises, stays, Rising, Covers, Sorted}
@@ -33,9 +33,6 @@ eqs-no s t n = go (eqs s t) refl
     go : (r : Bool) → eqs s t ≡ r → r ≡ false
     go true e = absurd (n (eqs-true s t e))
     go false e = refl
-
-pub length-zeros : (n m : ℕ) → n ≤ m → length (take {A = ℕ} n (replicate m 0)) ≡ n
-length-zeros n m h = simp (length-take, length-replicate) (omega arith)
 
 pub all-zero : (n m i : ℕ) → getD (take {A = ℕ} n (replicate m 0)) i 0 ≡ 0
 all-zero zero m i = refl
@@ -146,11 +143,6 @@ pub record Filled (f : ℕ → ℕ) (n i : ℕ) (block : List ℕ) : Type 0 wher
   pub size : length block ≡ n
   pub stands : (j : ℕ) → j < i → getD block j 0 ≡ f j
 
-length-table : (f : ℕ → ℕ) (i n : ℕ) → length (tableFrom f i n) ≡ n
-unfolding tableFrom
-length-table f i zero = refl
-length-table f i (suc n) = ap suc (length-table f (suc i) n)
-
 module _ (f : ℕ → ℕ) where
   pub filled-start : (block : List ℕ) → Filled f (length block) 0 block
   filled-start block = record { within = omega arith; size = refl; stands = λ j l. absurd (omega arith) }
@@ -164,8 +156,7 @@ module _ (f : ℕ → ℕ) where
         go j false q l = getD-set-other block i j x 0 (eqb-false j i q) ∙ v .stands j (omega (arith, eqb-false j i q))
 
     pub filled-end : length block ≤ i → block ≡ tableOf f n
-    unfolding tableOf
-    filled-end h = ext-getD 0 block (tableOf f n) (v .size ∙ sym (length-table f 0 n)) (λ j l. v .stands j (omega arith) ∙ sym (entry f n j (omega (arith, v .size))))
+    filled-end h = ext-getD 0 block (tableOf f n) (v .size ∙ sym (length-table f n)) (λ j l. v .stands j (omega arith) ∙ sym (entry f n j (omega (arith, v .size))))
 
   pub filled-none : (block : List ℕ) → length block ≡ 0 → block ≡ tableOf f (length block)
   filled-none block e = filled-end (length block) 0 block (filled-start block) (omega arith)

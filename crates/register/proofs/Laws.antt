@@ -5,7 +5,7 @@ use mathlib.Core.List.{List, [], _∷_, map}
 use Prim.Native.Nat.{ℕ, zero, suc, _-_, _*_, _%_, _≤_}
 use native.Mathlib.Omega.{arith}
 use lib.Dec.{eqb, leb}
-use lib.ListN.{length, take, drop, replicate, length-take, length-drop, length-replicate}
+use lib.ListN.{length, take, drop, replicate, length-drop}
 use borrow.Author.Tests.{leb-true}
 use Rattle.theory.specs.Truth.{and-right}
 use Rattle.theory.specs.Same.{eqs, eqs-sym}
@@ -16,6 +16,7 @@ use Rattle.theory.specs.Walk.{each}
 use Rattle.theory.specs.Distinct.{distinct}
 use Rattle.theory.specs.Keep.{onto, sift, length-onto}
 use Rattle.theory.specs.Pick.{good, pick, pick-take}
+use Rattle.theory.specs.Table.{length-cut}
 use Rattle.columns.specs.Columns.{actor, panOf}
 use Rattle.register.specs.Register.{slotLength, slotsMost, slotsIn, slotsOf, usedForm, freeForm, records, usedIn, inOrder}
 use Rattle.register.specs.Laws.{used-most, used-fits, records-chop, slots-front}
@@ -59,14 +60,11 @@ pick-zeros (suc m) [] h = refl
 pick-zeros (suc m) (x ∷ xs) h = ap (λ ys. x ∷ ys) (pick-zeros m xs (omega arith))
 
 module _ (n m : ℕ) (h : n ≤ m) where
-  pub length-zeros : length (take {A = ℕ} n (replicate m 0)) ≡ n
-  length-zeros = simp (length-take, length-replicate) (omega arith)
-
   pub all-asked : (b : List ℕ) (r : Bool) → r ≡ distinct (map panOf (pick good (take n (replicate m 0)) (chop slotLength (length (take {A = ℕ} n (replicate m 0))) b)))
       → r ≡ distinct (map panOf (chop slotLength n b))
   all-asked b r e =
       let l : length (chop slotLength n b) ≡ n = length-chop slotLength n b in
-      e ∙ rw (length-zeros, pick-take good n (replicate m 0) (chop slotLength n b) l, pick-zeros m (chop slotLength n b) (omega arith))
+      e ∙ rw (length-cut n m 0 h, pick-take good n (replicate m 0) (chop slotLength n b) l, pick-zeros m (chop slotLength n b) (omega arith))
 
 -- ---- in order
 

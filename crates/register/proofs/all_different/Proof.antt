@@ -1,5 +1,6 @@
 -- Assumes nothing.
-use Rattle.register.proofs.Laws.{length-zeros, all-asked}
+use Rattle.theory.specs.Table.{length-cut, cut-fits}
+use Rattle.register.proofs.Laws.{all-asked}
 use mathlib.Core.Path.{sym}
 use native.Mathlib.Omega.{arith}
 use borrow.Author.Needs.{needs}
@@ -7,11 +8,11 @@ use Rattle.register.proofs.all_different.Statement.{statement}
 use Rattle.register.proofs.all_different.Tie as tie
 
 slice-aggregate-are-apart : tie.Need-slice-aggregate-are-apart
-slice-aggregate-are-apart c = sym (length-zeros _ 8192 (c .before .before .pre .1))
+slice-aggregate-are-apart c = sym (length-cut _ 8192 _ (c .before .before .pre .1))
 
 are-apart-requires : tie.Need-are-apart-requires
 are-apart-requires c κs = let p = c .before .before .pre in
-    (rw (length-zeros _ 8192 (p .1)) (p .0), omega arith, omega arith)
+    (cut-fits _ 8192 _ _ _ (p .1) (p .0), omega arith, omega arith)
 
 returns : tie.Need-returns
 returns c = all-asked _ _ (c .before .before .before .pre .1) _ _ (c .are-apart .ensures)

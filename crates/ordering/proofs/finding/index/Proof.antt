@@ -2,7 +2,8 @@
 use borrow.Author.Needs.{needs}
 use mathlib.Core.Bool.{false≢true}
 use mathlib.Core.Path.{sym}
-use Rattle.ordering.proofs.Found.{length-zeros, all-zero}
+use Rattle.theory.specs.Table.{length-cut, cut-fits}
+use Rattle.ordering.proofs.Found.{all-zero}
 use Rattle.ordering.proofs.finding.index.Statement.{statement}
 use Rattle.ordering.proofs.finding.index.Tie as tie
 
@@ -10,16 +11,15 @@ returns : tie.Need-returns
 returns c = λ e. absurd (false≢true e)
 
 slice-aggregate-sort : tie.Need-slice-aggregate-sort
-slice-aggregate-sort c = sym (length-zeros _ 8192 (c .before .before .before .pre .3))
+slice-aggregate-sort c = sym (length-cut _ 8192 _ (c .before .before .before .pre .3))
 
 sort-requires : tie.Need-sort-requires
 sort-requires c κs =
     let x = c .before .before .before .before in
-    let e = length-zeros _ 8192 (x .pre .3) in
-    (rw e (x .pre .0), x .pre .1, x .pre .2, rw e (x .pre .3), all-zero (x .args .n) 8192)
+    (cut-fits _ 8192 _ _ _ (x .pre .3) (x .pre .0), x .pre .1, x .pre .2, rw (length-cut (x .args .n) 8192 0 (x .pre .3)) (x .pre .3), all-zero (x .args .n) 8192)
 
 returns-2 : tie.Need-returns-2
-returns-2 c = λ e. rw (length-zeros _ 8192 (c .before .before .before .before .before .pre .3)) at (c .sort .ensures e)
+returns-2 c = λ e. rw (length-cut _ 8192 0 (c .before .before .before .before .before .pre .3)) at (c .sort .ensures e)
 
 pub index-spec : {M : Type 1} → statement M
 index-spec =
