@@ -1,9 +1,11 @@
-//! The least time of several runs, each on fresh blocks; making these is not timed. The clock is this thread's time on the
-//! processor, so that other work on the machine is not counted.
+//! The least time of several runs, each on fresh blocks; making these is not timed. A short call is run more often, since
+//! the pace of a processor changes within milliseconds. The clock is this thread's time on the processor, so that other
+//! work on the machine is not counted.
 
 use std::hint::black_box;
 
 const RUNS: usize = 5;
+const MILLISECONDS: f64 = 100.0;
 
 #[repr(C)]
 struct Time {
@@ -34,10 +36,12 @@ pub fn least<A: PartialEq>(blocks: &[Vec<u8>], run: impl Fn(&mut [Vec<u8>]) -> A
         (milliseconds() - start, (answer, fresh))
     };
     let (mut best, outcome) = once();
-    for _ in 1..RUNS {
+    let (mut runs, mut spent) = (1, best);
+    while runs < RUNS || spent < MILLISECONDS {
         let (time, again) = once();
         assert!(again == outcome, "one call, two outcomes");
         best = best.min(time);
+        (runs, spent) = (runs + 1, spent + time);
     }
     (best, outcome)
 }
