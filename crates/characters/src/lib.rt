@@ -14,7 +14,10 @@ fn is_digit(b: u8) -> bool
 fn is_hex_digit(b: u8) -> bool
     ensures { λ r. ⌜ r ≡ hex b ⌝ }
 {
-    is_digit(b) | ((65 <= b) & (b <= 70))
+    if is_digit(b) {
+        return true;
+    }
+    (65 <= b) & (b <= 70)
 }
 
 fn all_hex(s: &[u8]) -> bool

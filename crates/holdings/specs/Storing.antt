@@ -2,12 +2,11 @@
 use mathlib.Core.Path.{_≡_, refl, sym, ap, _∙_}
 use mathlib.Core.Bool.{Bool, true, false, not, _&&_, _||_, true≢false}
 use mathlib.Core.List.{List, [], _∷_, _++_, map, append-assoc, append-nil}
-use Prim.Native.Nat.{ℕ, zero, suc, _+_, _≤_, _<_}
+use Prim.Native.Nat.{ℕ, suc, _+_, _≤_, _<_}
 use native.Mathlib.Omega.{arith}
-use lib.ListN.{length, getD, set, length-append}
-use borrow.Author.Tests.{not-true, not-false}
+use lib.ListN.{length, set}
 use Rattle.theory.specs.Truth.{and-none, or-left, or-right, or-both}
-use Rattle.theory.specs.Same.{eqs, eqs-true, eqs-refl, eqs-sym, mem}
+use Rattle.theory.specs.Same.{eqs, eqs-true, mem}
 use Rattle.theory.specs.Each.{Each, none, more, each-map}
 use Rattle.theory.specs.Walk.{some}
 use Rattle.theory.specs.Count.{bump, bump-add}

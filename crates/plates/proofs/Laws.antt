@@ -1,12 +1,12 @@
 -- The table's rule, and laws of the separators. Assumes nothing.
-use mathlib.Core.Path.{_≡_, refl, sym, ap, _∙_}
+use mathlib.Core.Path.{_≡_, refl, ap, _∙_}
 use mathlib.Core.Bool.{Bool, true, false, cond}
-use mathlib.Core.List.{List, [], _∷_}
+use mathlib.Core.List.{List}
 use Prim.Native.Nat.{ℕ, _<_, _≤_, _+_, _-_}
 use native.Mathlib.Omega.{arith}
 use lib.Dec.{eqb, leb}
-use lib.ListN.{length, getD}
-use borrow.Author.Tests.{le-leb, lt-leb, leb-true}
+use lib.ListN.{getD}
+use borrow.Author.Tests.{le-leb, leb-true}
 use Rattle.theory.specs.Truth.{same-truth}
 use Rattle.theory.specs.Table.{entry}
 use Rattle.plates.specs.Plate.{allowed, allowedMark, allowedTable}

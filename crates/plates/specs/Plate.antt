@@ -1,10 +1,10 @@
 -- The license plate, its nationality and its separators: rules L6, L7 and the separator's part of L10.
 -- Assumes nothing.
-use Prim.Native.Nat.{ℕ, _+_, _-_}
+use Prim.Native.Nat.{ℕ, _+_}
 use mathlib.Core.Bool.{Bool, _&&_, _||_, cond}
 use mathlib.Core.List.{List}
 use lib.Dec.{eqb, leb}
-use lib.ListN.{length, getD}
+use lib.ListN.{length}
 use Rattle.theory.specs.Every.{run, leading}
 use Rattle.theory.specs.Table.{tableOf}
 use Rattle.texts.specs.Field.{field}

@@ -51,8 +51,7 @@ fn admitted(table: &[u8; 256], f: &[u8]) -> usize
 pub fn plate_characters(f: &[u8]) -> usize
     ensures { λ r. ⌜ r ≡ leading allowed (now (f .entry)) ⌝ }
 {
-    let table = ALLOWED;
-    admitted(&table, f)
+    admitted(&ALLOWED, f)
 }
 
 pub fn is_plate(f: &[u8]) -> bool
