@@ -69,7 +69,7 @@ fn slot_for(
     ensures { λ r. ⌜ r ≡ placeOf (now (pan .entry)) (records (now (register .entry))) ⌝ }
 {
     if i < found.len() {
-        return place_or_next(ordering::place_at(found, i), first, used);
+        return place_or_next(holdings::place_at(found, i), first, used);
     }
     register::find(used_of(register, used), pan)
 }

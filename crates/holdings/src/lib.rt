@@ -52,13 +52,27 @@ pub fn places(held: &[u8], lines: &[u8], verdicts: &[u8], found: &mut [u16])
     );
 }
 
+fn wide(x: u16) -> usize
+    ensures { λ r. ⌜ r ≡ x ⌝ }
+{
+    x as usize
+}
+
+// The place that was found for the line i.
+pub fn place_at(found: &[u16], i: usize) -> usize
+    requires { ⌜ i < length (now found) ⌝ }
+    ensures { λ r. ⌜ r ≡ getD (now (found .entry)) i 0 ⌝ }
+{
+    wide(found[i])
+}
+
 // The place of a line's PAN, as it was found or by a search.
 fn place_of(held: &[u8], l: &[u8], found: &[u16], i: usize) -> usize
     requires { ⌜ (i < length (now found) → getD (now found) i 0 ≡ placeOf (panOf (now l)) (slotsOf (now held))) ⌝ }
     ensures { λ r. ⌜ r ≡ placeOf (panOf (now (l .entry))) (slotsOf (now (held .entry))) ⌝ }
 {
     if i < found.len() {
-        return ordering::place_at(found, i);
+        return place_at(found, i);
     }
     register::find(held, texts::field(l, columns::PAN_FROM, columns::PAN_TO))
 }

@@ -304,11 +304,3 @@ pub fn places(
         found,
     );
 }
-
-// The place that was found for the line i.
-pub fn place_at(found: &[u16], i: usize) -> usize
-    requires { ⌜ i < length (now found) ⌝ }
-    ensures { λ r. ⌜ r ≡ getD (now (found .entry)) i 0 ⌝ }
-{
-    sorting::wide(found[i])
-}
