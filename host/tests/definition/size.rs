@@ -67,11 +67,15 @@ fn large_cases() {
         println!("mode {}, {n} lines, {slots} slots: {:?}", c.mode, outcome.answer);
         if outcome.answer.number == 0 {
             assert_eq!(of_all(|e| verdicts(e, &c.hgv, &outcome)).len(), n);
-            let (applied, _) = of_all(|e| {
-                let mut copy = free(slots);
-                ((e.update)(c.mode, &mut copy, &c.hgv, &outcome.hgc), copy)
-            });
+            let update = |copy: &[u8]| {
+                of_all(|e| {
+                    let mut copy = copy.to_vec();
+                    ((e.update)(c.mode, &mut copy, &c.hgv, &outcome.hgc), copy)
+                })
+            };
+            let (applied, copy) = update(&free(slots));
             assert_eq!((applied.number, applied.taken), (0, outcome.answer.taken));
+            assert!(update(&copy).1 == copy, "each line has its slot, and takes it again");
         }
     }
 }
