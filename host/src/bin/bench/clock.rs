@@ -4,8 +4,7 @@
 
 use std::hint::black_box;
 
-const RUNS: usize = 5;
-const MILLISECONDS: f64 = 100.0;
+const MILLISECONDS: f64 = 10.0;
 
 #[repr(C)]
 struct Time {
@@ -36,12 +35,12 @@ pub fn least<A: PartialEq>(blocks: &[Vec<u8>], run: impl Fn(&mut [Vec<u8>]) -> A
         (milliseconds() - start, (answer, fresh))
     };
     let (mut best, outcome) = once();
-    let (mut runs, mut spent) = (1, best);
-    while runs < RUNS || spent < MILLISECONDS {
+    let mut spent = best;
+    while spent < MILLISECONDS {
         let (time, again) = once();
         assert!(again == outcome, "one call, two outcomes");
         best = best.min(time);
-        (runs, spent) = (runs + 1, spent + time);
+        spent += time;
     }
     (best, outcome)
 }
