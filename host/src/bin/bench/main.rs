@@ -1,6 +1,7 @@
 //! How long each function takes on full blocks: proved, in plain Rust, and in Rust with hashed searches, beside copying the
 //! blocks that it is lent, which nothing that reads them all can beat. Same machine, same run, same bytes, all built for
-//! release. It prints tables for docs/BENCHMARKS.md, and stops if two implementations differ in an answer or a byte.
+//! release. It prints tables for docs/BENCHMARKS.md, and stops if two implementations differ in an answer or a byte. An
+//! argument leaves only the calls whose names have it in them.
 
 mod cases;
 mod clock;
@@ -44,7 +45,12 @@ fn least(a: Pass, b: Pass) -> Pass {
 }
 
 fn main() {
-    let cases = SIZES.map(cases::all);
+    let wanted = std::env::args().nth(1).unwrap_or_default();
+    let cases = SIZES.map(|size| {
+        let mut cases = cases::all(size);
+        cases.retain(|case| case.name.contains(&wanted));
+        cases
+    });
     let pass = |n| {
         eprintln!("pass {n} of {PASSES}");
         cases.iter().map(|cases| cases.iter().map(measure).collect()).collect()
