@@ -13,7 +13,7 @@ use Rattle.theory.specs.Parts.{chop, partAt, length-chop}
 use Rattle.theory.specs.Scan.{scan, takenNext, Judged, judged-start, judged-turn, judged-end}
 use Rattle.closing.specs.Closing.{kept, closedUp}
 use Rattle.register.specs.Register.{slotLength, slotsMost, slotsIn, slotsOf, records, usedIn, usedPart, inOrder}
-use Rattle.register.specs.Search.{of}
+use Rattle.register.specs.Search.{ofActor}
 use Rattle.register.specs.Laws.{ordered, used-most, used-fits, records-chop, slots-used}
 use Rattle.holdings.specs.Holdings.{others, isFull}
 use Rattle.upkeep.specs.Stays.{as-it-is, closed}
@@ -26,11 +26,11 @@ unfolding scan
 scan-map g ts [] = refl
 scan-map g ts (l ∷ ls) = ap (λ (vs : List ℕ). g l ∷ vs) (scan-map g (takenNext (g l) l ts) ls)
 
-pub marked-own : (who r : List ℕ) → of who r ≡ true → 1 ≡ markOf who r
+pub marked-own : (who r : List ℕ) → ofActor who r ≡ true → 1 ≡ markOf who r
 unfolding markOf bump
 marked-own who r h = rw h
 
-pub marked-other : (who r : List ℕ) → of who r ≡ false → 0 ≡ markOf who r
+pub marked-other : (who r : List ℕ) → ofActor who r ≡ false → 0 ≡ markOf who r
 unfolding markOf bump
 marked-other who r h = rw h
 

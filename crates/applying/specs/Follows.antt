@@ -22,7 +22,7 @@ use Rattle.columns.specs.Columns.{panOf}
 use Rattle.lines.specs.Rules.{recordHolds}
 use Rattle.lines.specs.End.{recordOf}
 use Rattle.register.specs.Register.{slotLength, slotsIn, records, inOrder}
-use Rattle.register.specs.Search.{holdsPan, placeOf, of}
+use Rattle.register.specs.Search.{holdsPan, placeOf, ofActor}
 use Rattle.holdings.specs.Holdings.{stored, storedAll, others, holdings, isFull}
 use Rattle.holdings.specs.Storing.{stored-held, stored-new, all-grows}
 use Rattle.upkeep.specs.Stays.{Holds, written-length, written-used, as-it-is, replaced, added, closed}
@@ -81,9 +81,9 @@ module _ (reception : List ℕ) (r : realTime reception ≡ true) (n : ℕ) wher
 pub pick-others : (who : List ℕ) (R : List (List ℕ)) → pick good (map (markOf who) R) R ≡ others who R
 unfolding pick others sift markOf bump good
 pick-others who [] = refl
-pick-others who (r ∷ R) = rw (pick-others who R) (go (of who r) refl)
+pick-others who (r ∷ R) = rw (pick-others who R) (go (ofActor who r) refl)
   where
-    go : (s : Bool) → of who r ≡ s → onto (good (markOf who r)) r (others who R) ≡ onto (not s) r (others who R)
+    go : (s : Bool) → ofActor who r ≡ s → onto (good (markOf who r)) r (others who R) ≡ onto (not s) r (others who R)
     go true e = rw e
     go false e = rw e
 

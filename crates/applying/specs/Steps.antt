@@ -11,13 +11,13 @@ use Rattle.times.specs.Time.{realTime}
 use Rattle.lines.specs.Rules.{recordHolds}
 use Rattle.lines.specs.End.{recordOf}
 use Rattle.register.specs.Register.{slotsIn, records, usedIn, inOrder}
-use Rattle.register.specs.Search.{of}
+use Rattle.register.specs.Search.{ofActor}
 use Rattle.holdings.specs.Holdings.{stored, storedAll, others, isFull}
 use Rattle.upkeep.specs.Stays.{Holds}
 
 -- 1 marks a record of this actor
 unfoldable pub markOf : List ℕ → List ℕ → ℕ
-markOf who r = bump (of who r) 0
+markOf who r = bump (ofActor who r) 0
 
 -- what the lines are stored into: in mode 2 the sender's records have gone
 unfoldable pub prepared : ℕ → List ℕ → List (List ℕ) → List (List ℕ)

@@ -13,7 +13,7 @@ use Rattle.theory.specs.Walk.{passes-each}
 use Rattle.theory.specs.Keep.{sift-passes}
 use Rattle.header.specs.Header.{sender}
 use Rattle.register.specs.Register.{slotsIn, records}
-use Rattle.register.specs.Search.{of}
+use Rattle.register.specs.Search.{ofActor}
 use Rattle.verdicts.specs.Verdict.{taken}
 use Rattle.holdings.specs.Holdings.{holdings}
 use Rattle.upkeep.specs.Stays.{Holds}
@@ -67,7 +67,7 @@ module _ (mode : ℕ) (reception register rows h hgc : List ℕ) (e : numberOf m
     -- 51 is not given
     his-own : ownHolds copy h ≡ true
     unfolding ownHolds own
-    his-own = rw (m .held) (passes-each (of (sender h)) (sift-passes (of (sender h)) (records register)))
+    his-own = rw (m .held) (passes-each (ofActor (sender h)) (sift-passes (ofActor (sender h)) (records register)))
 
     -- the records that follow in the copy, by the HGC's reception and the lines read off as taken
     copied-is : copied mode copy h g ≡ holdings mode (sender h) reception (records copy) ls

@@ -13,7 +13,7 @@ use Rattle.theory.specs.Walk.{some}
 use Rattle.theory.specs.Keep.{onto, sift, sift-append, sift-length, sift-passes, sift-all, sift-apart, sift-inside}
 use Rattle.columns.specs.Columns.{actor, panOf}
 use Rattle.lines.specs.End.{recordOf}
-use Rattle.register.specs.Search.{holdsPan, of, holdsForeign, heldByAnother}
+use Rattle.register.specs.Search.{holdsPan, ofActor, holdsForeign, heldByAnother}
 use Rattle.holdings.specs.Holdings.{storedOn, stored, storedAll, others, replacedAll, isFull, holdings}
 use Rattle.holdings.specs.Storing.{own-free, free-stored}
 use Rattle.applying.specs.Fit.{Fit}
@@ -21,20 +21,20 @@ use Rattle.applying.specs.Others.{each-own, each-free}
 
 -- the records of a provider, in our order
 unfoldable pub own : List ℕ → List (List ℕ) → List (List ℕ)
-own who R = sift (of who) R
+own who R = sift (ofActor who) R
 
 -- ---- his own import
 
 module _ (who : List ℕ) where
   -- a record of his is stored among his own as among all
-  own-stored : (x : List ℕ) (R : List (List ℕ)) → of who x ≡ true → heldByAnother (panOf x) who R ≡ false → own who (stored x R) ≡ stored x (own who R)
+  own-stored : (x : List ℕ) (R : List (List ℕ)) → ofActor who x ≡ true → heldByAnother (panOf x) who R ≡ false → own who (stored x R) ≡ stored x (own who R)
   unfolding stored storedOn own sift onto heldByAnother some holdsForeign
   own-stored x [] o h = rw o
   own-stored x (r ∷ R) o h =
-      go (holdsPan (panOf x) r) (of who r) refl refl (or-left (holdsPan (panOf x) r && not (of who r)) (some (holdsForeign (panOf x) who) R) h)
-      (own-stored x R o (or-right (holdsPan (panOf x) r && not (of who r)) (some (holdsForeign (panOf x) who) R) h))
+      go (holdsPan (panOf x) r) (ofActor who r) refl refl (or-left (holdsPan (panOf x) r && not (ofActor who r)) (some (holdsForeign (panOf x) who) R) h)
+      (own-stored x R o (or-right (holdsPan (panOf x) r && not (ofActor who r)) (some (holdsForeign (panOf x) who) R) h))
     where
-      go : (b s : Bool) → holdsPan (panOf x) r ≡ b → of who r ≡ s → b && not s ≡ false → own who (stored x R) ≡ stored x (own who R)
+      go : (b s : Bool) → holdsPan (panOf x) r ≡ b → ofActor who r ≡ s → b && not s ≡ false → own who (stored x R) ≡ stored x (own who R)
           → own who (storedOn b x r R (stored x R)) ≡ stored x (onto s r (own who R))
       go true true e f k ih = rw (o, e)
       go true false e f k ih = absurd (true≢false k)
@@ -42,26 +42,26 @@ module _ (who : List ℕ) where
       go false false e f k ih = rw (f, ih)
 
   -- all of them, one after the other
-  own-all : (xs R : List (List ℕ)) → Each (λ x. of who x ≡ true) xs → Each (λ x. heldByAnother (panOf x) who R ≡ false) xs → own who (storedAll R xs) ≡ storedAll (own who R) xs
+  own-all : (xs R : List (List ℕ)) → Each (λ x. ofActor who x ≡ true) xs → Each (λ x. heldByAnother (panOf x) who R ≡ false) xs → own who (storedAll R xs) ≡ storedAll (own who R) xs
   unfolding storedAll
   own-all [] R none none = refl
   own-all (x ∷ xs) R (more o os) (more h hs) =
       own-all xs (stored x R) os (each-map (λ y k. free-stored who (panOf y) x R o k) hs) ∙ rw (own-stored x R o h)
 
   -- behind the others' only the lines are his
-  own-behind : (R xs : List (List ℕ)) → Each (λ x. of who x ≡ true) xs → own who (others who R ++ xs) ≡ xs
+  own-behind : (R xs : List (List ℕ)) → Each (λ x. ofActor who x ≡ true) xs → own who (others who R ++ xs) ≡ xs
   unfolding own others
   own-behind R xs o =
-      sift-append (of who) (others who R) xs
-      ∙ rw (sift-apart (of who) (λ r. not (of who r)) (λ r e. not-true (of who r) e) R, sift-all (of who) o)
+      sift-append (ofActor who) (others who R) xs
+      ∙ rw (sift-apart (ofActor who) (λ r. not (ofActor who r)) (λ r e. not-true (ofActor who r) e) R, sift-all (ofActor who) o)
 
   -- among his own no record is another's
   none-others : (R : List (List ℕ)) → others who (own who R) ≡ []
   unfolding own others
-  none-others R = sift-apart (λ r. not (of who r)) (of who) (λ r e. ap not e) R
+  none-others R = sift-apart (λ r. not (ofActor who r)) (ofActor who) (λ r e. ap not e) R
 
 -- the lines fit, and are the sender's own
-module _ (mode : ℕ) (who reception : List ℕ) (slots : ℕ) (R ls : List (List ℕ)) (f : Fit mode who reception slots R ls) (his : Each (λ l. of who l ≡ true) ls) where
+module _ (mode : ℕ) (who reception : List ℕ) (slots : ℕ) (R ls : List (List ℕ)) (f : Fit mode who reception slots R ls) (his : Each (λ l. ofActor who l ≡ true) ls) where
   abbrev xs : List (List ℕ)
   xs = map (recordOf reception) ls
 
@@ -82,13 +82,13 @@ module _ (mode : ℕ) (who reception : List ℕ) (slots : ℕ) (R ls : List (Lis
         received = f .received;
         lined = f .lined;
         apart = f .apart;
-        free = each-map (λ l k. own-free who (panOf l) (sift-passes (of who) R)) (f .free);
-        room = rw (← own-holdings) (omega (arith, sift-length (of who) (holdings mode who reception R ls), f .room));
+        free = each-map (λ l k. own-free who (panOf l) (sift-passes (ofActor who) R)) (f .free);
+        room = rw (← own-holdings) (omega (arith, sift-length (ofActor who) (holdings mode who reception R ls), f .room));
       }
 
 -- ---- another's
 
 -- a provider's records are among those of all but another
 pub own-others : (who from : List ℕ) (R : List (List ℕ)) → eqs from who ≡ false → own who (others from R) ≡ own who R
-unfolding own others of
-own-others who from R d = sift-inside (of who) (λ r. not (of from r)) (λ r e. rw (eqs-true (actor r) who e, eqs-sym who from, d)) R
+unfolding own others ofActor
+own-others who from R d = sift-inside (ofActor who) (λ r. not (ofActor from r)) (λ r e. rw (eqs-true (actor r) who e, eqs-sym who from, d)) R

@@ -11,12 +11,12 @@ abbrev pub digit : ℕ → Bool
 digit = between 48 57
 
 -- the digit 0, which is a missing number and a filler
-abbrev pub zero : ℕ → Bool
-zero = between 48 48
+abbrev pub zeroDigit : ℕ → Bool
+zeroDigit = between 48 48
 
 -- byte 0, of which a free slot is made
-abbrev pub null : ℕ → Bool
-null = between 0 0
+abbrev pub zeroByte : ℕ → Bool
+zeroByte = between 0 0
 
 abbrev pub blank : ℕ → Bool
 blank = between 32 32

@@ -6,6 +6,6 @@ use Prim.Native.Nat.{ℕ}
 use Rattle.theory.specs.Outcome.{one-outcome}
 use Rattle.theory.specs.Every.{run}
 
--- is_digits, is_zeros, is_nulls, is_blanks, is_capitals
+-- is_digits, is_zeros, is_zero_bytes, is_blanks, is_capitals
 pub run-one : (p : ℕ → Bool) (n : ℕ) (f : List ℕ) (r s : Bool) → r ≡ run p n f → s ≡ run p n f → r ≡ s
 run-one p n f r s = one-outcome

@@ -2,7 +2,7 @@
 // simply not in form.
 ghost use mathlib.Core.Path.{_≡_};
 ghost use Rattle.theory.specs.Every.{all, run};
-ghost use Rattle.fields.specs.Field.{between, digit, zero, null, blank, capital};
+ghost use Rattle.fields.specs.Field.{between, digit, zeroDigit, zeroByte, blank, capital};
 
 fn is_between(b: u8, lo: u8, hi: u8) -> bool
     ensures { λ r. ⌜ r ≡ between lo hi b ⌝ }
@@ -37,13 +37,13 @@ pub fn is_digits(f: &[u8], n: usize) -> bool
 }
 
 pub fn is_zeros(f: &[u8], n: usize) -> bool
-    ensures { λ r. ⌜ r ≡ run zero n (now (f .entry)) ⌝ }
+    ensures { λ r. ⌜ r ≡ run zeroDigit n (now (f .entry)) ⌝ }
 {
     is_run(f, n, 48, 48)
 }
 
-pub fn is_nulls(f: &[u8], n: usize) -> bool
-    ensures { λ r. ⌜ r ≡ run null n (now (f .entry)) ⌝ }
+pub fn is_zero_bytes(f: &[u8], n: usize) -> bool
+    ensures { λ r. ⌜ r ≡ run zeroByte n (now (f .entry)) ⌝ }
 {
     is_run(f, n, 0, 0)
 }

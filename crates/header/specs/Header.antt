@@ -6,7 +6,7 @@ use Rattle.theory.specs.Text.{bytes}
 use Rattle.theory.specs.Same.{eqs}
 use Rattle.theory.specs.Every.{run}
 use Rattle.texts.specs.Field.{field, lineEnd}
-use Rattle.fields.specs.Field.{digit, zero}
+use Rattle.fields.specs.Field.{digit, zeroDigit}
 use Rattle.times.specs.Time.{realTime}
 use Rattle.sequences.specs.Sequence.{sequence}
 
@@ -50,5 +50,5 @@ headerHolds h =
     eqs (field 1 1 h) (bytes "0") && run digit 6 (sender h) && run digit 6 (receiver h)
     && sequence (sender h) (listSequence h)
     && previousHolds h
-    && run zero 14 (field 52 65 h) && run digit 15 (count h) && realTime (creation h)
-    && run zero 27 (field 101 127 h) && eqs (field 128 128 h) lineEnd
+    && run zeroDigit 14 (field 52 65 h) && run digit 15 (count h) && realTime (creation h)
+    && run zeroDigit 27 (field 101 127 h) && eqs (field 128 128 h) lineEnd

@@ -8,7 +8,7 @@ use Rattle.theory.specs.Same.{eqs}
 use Rattle.theory.specs.Every.{run}
 use Rattle.theory.specs.Truth.{and-left, and-right}
 use Rattle.texts.specs.Field.{field, lineEnd}
-use Rattle.fields.specs.Field.{digit, zero}
+use Rattle.fields.specs.Field.{digit, zeroDigit}
 use Rattle.times.specs.Time.{realTime}
 use Rattle.sequences.specs.Sequence.{sequence}
 use Rattle.header.specs.Header.{sender, receiver, listSequence, previousHolds, count, creation, headerHolds}
@@ -22,17 +22,17 @@ module _ (h : List ℕ) (e : headerHolds h ≡ true) where
   upSequence = upSender && run digit 6 (receiver h) && sequence (sender h) (listSequence h)
 
   abbrev upCount : Bool
-  upCount = upSequence && previousHolds h && run zero 14 (field 52 65 h) && run digit 15 (count h)
+  upCount = upSequence && previousHolds h && run zeroDigit 14 (field 52 65 h) && run digit 15 (count h)
 
   front : upSequence ≡ true
   unfolding headerHolds
   front =
       and-left upSequence (previousHolds h)
-      (and-left (upSequence && previousHolds h) (run zero 14 (field 52 65 h))
-      (and-left (upSequence && previousHolds h && run zero 14 (field 52 65 h)) (run digit 15 (count h))
+      (and-left (upSequence && previousHolds h) (run zeroDigit 14 (field 52 65 h))
+      (and-left (upSequence && previousHolds h && run zeroDigit 14 (field 52 65 h)) (run digit 15 (count h))
       (and-left upCount (realTime (creation h))
-      (and-left (upCount && realTime (creation h)) (run zero 27 (field 101 127 h))
-      (and-left (upCount && realTime (creation h) && run zero 27 (field 101 127 h)) (eqs (field 128 128 h) lineEnd) e)))))
+      (and-left (upCount && realTime (creation h)) (run zeroDigit 27 (field 101 127 h))
+      (and-left (upCount && realTime (creation h) && run zeroDigit 27 (field 101 127 h)) (eqs (field 128 128 h) lineEnd) e)))))
 
   pub header-sequence : sequence (sender h) (listSequence h) ≡ true
   header-sequence = and-right (upSender && run digit 6 (receiver h)) (sequence (sender h) (listSequence h)) front

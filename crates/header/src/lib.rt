@@ -5,7 +5,7 @@ ghost use mathlib.Core.Path.{_≡_};
 ghost use Prim.Native.Nat.{_≤_};
 ghost use Rattle.theory.specs.Every.{run};
 ghost use Rattle.texts.specs.Field.{field};
-ghost use Rattle.fields.specs.Field.{digit, zero};
+ghost use Rattle.fields.specs.Field.{digit, zeroDigit};
 ghost use Rattle.times.specs.Time.{realTime};
 ghost use Rattle.sequences.specs.Sequence.{sequence};
 ghost use Rattle.header.specs.Header.{sender, listSequence, creation, previousHolds, headerHolds};
@@ -25,7 +25,7 @@ fn has_digits(s: &[u8], from: usize, to: usize, n: usize) -> bool
 
 fn has_zeros(s: &[u8], from: usize, to: usize, n: usize) -> bool
     requires { ⌜ (1 ≤ from) × (from ≤ to) ⌝ }
-    ensures { λ r. ⌜ r ≡ run zero n (field from to (now (s .entry))) ⌝ }
+    ensures { λ r. ⌜ r ≡ run zeroDigit n (field from to (now (s .entry))) ⌝ }
 {
     fields::is_zeros(texts::field(s, from, to), n)
 }

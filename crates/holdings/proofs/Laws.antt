@@ -17,7 +17,7 @@ use Rattle.theory.specs.Place.{place-some}
 use Rattle.columns.specs.Columns.{panOf}
 use Rattle.register.specs.Register.{slotLength, slotsMost, slotsIn, slotsOf, records, usedIn, usedPart}
 use Rattle.register.specs.Laws.{used-slots, slots-used}
-use Rattle.register.specs.Search.{holdsPan, placeOf, of, countOf}
+use Rattle.register.specs.Search.{holdsPan, placeOf, ofActor, countOf}
 use Rattle.holdings.specs.Holdings.{others, isFull}
 use Rattle.holdings.specs.Storing.{isNew}
 use Rattle.holdings.specs.Room.{usedAfter}
@@ -57,11 +57,11 @@ counts-rejected v n h = rw (good-no v h)
 -- the others are those that are not his
 pub others-count : (who : List ℕ) (R : List (List ℕ)) → length (others who R) ≡ length R - countOf who R
 unfolding others countOf
-others-count who R = omega (arith, sift-counts (of who) R)
+others-count who R = omega (arith, sift-counts (ofActor who) R)
 
 pub count-most : (who : List ℕ) (R : List (List ℕ)) → countOf who R ≤ length R
 unfolding countOf
-count-most who R = omega (arith, sift-counts (of who) R)
+count-most who R = omega (arith, sift-counts (ofActor who) R)
 
 pub taken-most : (vs : List ℕ) (t : ℕ) → t ≡ tally good vs → t ≤ length vs
 taken-most vs t e = omega (arith, tallies vs)

@@ -7,7 +7,7 @@ use lib.Dec.{eqb}
 use Rattle.theory.specs.Keep.{sift}
 use Rattle.columns.specs.Columns.{panOf}
 use Rattle.lines.specs.End.{recordOf}
-use Rattle.register.specs.Search.{holdsPan, of}
+use Rattle.register.specs.Search.{holdsPan, ofActor}
 
 -- x in place of r where the test holds, else r, and what is made of those behind it
 unfoldable pub storedOn : Bool → List ℕ → List ℕ → List (List ℕ) → List (List ℕ) → List (List ℕ)
@@ -26,7 +26,7 @@ storedAll R (x ∷ xs) = storedAll (stored x R) xs
 
 -- the records of all but this actor
 unfoldable pub others : List ℕ → List (List ℕ) → List (List ℕ)
-others who R = sift (λ r. not (of who r)) R
+others who R = sift (λ r. not (ofActor who r)) R
 
 -- mode 2: first the sender's records go, the others close up in order, then the taken lines follow
 unfoldable pub replacedAll : List ℕ → List (List ℕ) → List (List ℕ) → List (List ℕ)

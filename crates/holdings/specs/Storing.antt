@@ -14,7 +14,7 @@ use Rattle.theory.specs.Keep.{onto, sift, length-onto, sift-append, sift-none, 
 use Rattle.theory.specs.Place.{place, placeOn}
 use Rattle.theory.specs.Distinct.{distinct, distinct-head, distinct-tail}
 use Rattle.columns.specs.Columns.{panOf}
-use Rattle.register.specs.Search.{holdsPan, placeOf, of, holdsForeign, heldByAnother}
+use Rattle.register.specs.Search.{holdsPan, placeOf, ofActor, holdsForeign, heldByAnother}
 use Rattle.holdings.specs.Holdings.{storedOn, stored, storedAll, others}
 
 -- ---- by its place
@@ -130,21 +130,21 @@ all-new (x ∷ xs) R d (more h hs) =
 
 module _ (who : List ℕ) where
   -- an actor's record in place of one of his leaves those of the others
-  pub others-stored : (x : List ℕ) (R : List (List ℕ)) → of who x ≡ true → heldByAnother (panOf x) who R ≡ false → others who (stored x R) ≡ others who R
+  pub others-stored : (x : List ℕ) (R : List (List ℕ)) → ofActor who x ≡ true → heldByAnother (panOf x) who R ≡ false → others who (stored x R) ≡ others who R
   unfolding stored storedOn others sift onto heldByAnother some holdsForeign
   others-stored x [] o h = rw o
   others-stored x (r ∷ R) o h =
-      go (holdsPan (panOf x) r) (of who r) (or-left (holdsPan (panOf x) r && not (of who r)) (some (holdsForeign (panOf x) who) R) h)
-      (others-stored x R o (or-right (holdsPan (panOf x) r && not (of who r)) (some (holdsForeign (panOf x) who) R) h)) refl
+      go (holdsPan (panOf x) r) (ofActor who r) (or-left (holdsPan (panOf x) r && not (ofActor who r)) (some (holdsForeign (panOf x) who) R) h)
+      (others-stored x R o (or-right (holdsPan (panOf x) r && not (ofActor who r)) (some (holdsForeign (panOf x) who) R) h)) refl
     where
-      go : (b s : Bool) → b && not s ≡ false → others who (stored x R) ≡ others who R → of who r ≡ s
+      go : (b s : Bool) → b && not s ≡ false → others who (stored x R) ≡ others who R → ofActor who r ≡ s
           → others who (storedOn b x r R (stored x R)) ≡ onto (not s) r (others who R)
       go true true k ih e = rw o
       go true false k ih e = absurd (true≢false k)
       go false s k ih e = rw (e, ih)
 
   -- what no other actor holds, none holds after
-  pub free-stored : (p x : List ℕ) (R : List (List ℕ)) → of who x ≡ true → heldByAnother p who R ≡ false → heldByAnother p who (stored x R) ≡ false
+  pub free-stored : (p x : List ℕ) (R : List (List ℕ)) → ofActor who x ≡ true → heldByAnother p who R ≡ false → heldByAnother p who (stored x R) ≡ false
   unfolding stored storedOn heldByAnother some holdsForeign
   free-stored p x [] o h = rw o (or-both (holdsPan p x && false) false (and-none (holdsPan p x) false refl) refl)
   free-stored p x (r ∷ R) o h =
@@ -158,32 +158,32 @@ module _ (who : List ℕ) where
       go true ih h₁ h₂ = rw o (or-both (holdsPan p x && false) (some (holdsForeign p who) R) (and-none (holdsPan p x) false refl) h₂)
       go false ih h₁ h₂ = or-both (holdsForeign p who r) (some (holdsForeign p who) (stored x R)) h₁ ih
 
-  pub others-all : (xs R : List (List ℕ)) → Each (λ x. of who x ≡ true) xs → Each (λ x. heldByAnother (panOf x) who R ≡ false) xs → others who (storedAll R xs) ≡ others who R
+  pub others-all : (xs R : List (List ℕ)) → Each (λ x. ofActor who x ≡ true) xs → Each (λ x. heldByAnother (panOf x) who R ≡ false) xs → others who (storedAll R xs) ≡ others who R
   unfolding storedAll
   others-all [] R none none = refl
   others-all (x ∷ xs) R (more o os) (more h hs) =
       others-all xs (stored x R) os (each-map (λ y k. free-stored (panOf y) x R o k) hs) ∙ others-stored x R o h
 
-  pub others-replaced : (xs R : List (List ℕ)) → Each (λ x. of who x ≡ true) xs → others who (others who R ++ xs) ≡ others who R
+  pub others-replaced : (xs R : List (List ℕ)) → Each (λ x. ofActor who x ≡ true) xs → others who (others who R ++ xs) ≡ others who R
   unfolding others
   others-replaced xs R o =
-      sift-append (λ r. not (of who r)) (others who R) xs
-      ∙ rw (sift-none (λ r. not (of who r)) (each-map (λ x e. ap not e) o), append-nil (sift (λ r. not (of who r)) (sift (λ r. not (of who r)) R)))
-      (sift-inside (λ r. not (of who r)) (λ r. not (of who r)) (λ x e. e) R)
+      sift-append (λ r. not (ofActor who r)) (others who R) xs
+      ∙ rw (sift-none (λ r. not (ofActor who r)) (each-map (λ x e. ap not e) o), append-nil (sift (λ r. not (ofActor who r)) (sift (λ r. not (ofActor who r)) R)))
+      (sift-inside (λ r. not (ofActor who r)) (λ r. not (ofActor who r)) (λ x e. e) R)
 
 -- among records that are only this actor's no other actor holds a PAN
-pub own-free : (who pan : List ℕ) {R : List (List ℕ)} → Each (λ r. of who r ≡ true) R → heldByAnother pan who R ≡ false
+pub own-free : (who pan : List ℕ) {R : List (List ℕ)} → Each (λ r. ofActor who r ≡ true) R → heldByAnother pan who R ≡ false
 unfolding heldByAnother some holdsForeign
 own-free who pan none = refl
-own-free who pan (more {x = r} h hs) = or-both _ _ (and-none (holdsPan pan r) (not (of who r)) (ap not h)) (own-free who pan hs)
+own-free who pan (more {x = r} h hs) = or-both _ _ (and-none (holdsPan pan r) (not (ofActor who r)) (ap not h)) (own-free who pan hs)
 
 -- a PAN that no other actor holds is new to the records of the others
 pub new-others : (who p : List ℕ) (R : List (List ℕ)) → heldByAnother p who R ≡ false → some (holdsPan p) (others who R) ≡ false
 unfolding others sift onto heldByAnother some holdsForeign
 new-others who p [] h = refl
 new-others who p (r ∷ R) h =
-    go (of who r) (or-left (holdsPan p r && not (of who r)) (some (holdsForeign p who) R) h)
-    (new-others who p R (or-right (holdsPan p r && not (of who r)) (some (holdsForeign p who) R) h))
+    go (ofActor who r) (or-left (holdsPan p r && not (ofActor who r)) (some (holdsForeign p who) R) h)
+    (new-others who p R (or-right (holdsPan p r && not (ofActor who r)) (some (holdsForeign p who) R) h))
   where
     go : (s : Bool) → holdsPan p r && not s ≡ false → some (holdsPan p) (others who R) ≡ false → some (holdsPan p) (onto (not s) r (others who R)) ≡ false
     go true k ih = ih

@@ -22,7 +22,7 @@ use Rattle.hgv.specs.Laws.{lines-room, lines-most}
 use Rattle.header.specs.Header.{sender}
 use Rattle.header.specs.Laws.{header-sender}
 use Rattle.register.specs.Register.{records, slotsIn}
-use Rattle.register.specs.Search.{of, heldByAnother}
+use Rattle.register.specs.Search.{ofActor, heldByAnother}
 use Rattle.verdicts.specs.Verdict.{taken}
 use Rattle.verdicts.specs.Laws.{length-verdicts, each-faultless, each-free, taken-apart}
 use Rattle.hgc.specs.Confirmation.{confirmationLength}
@@ -45,8 +45,8 @@ module _ (mode : ℕ) (reception register rows h : List ℕ) (c : Clear mode rec
   pub lines-hold : Each (λ l. recordHolds l ≡ true) ls
   lines-hold = each-map (λ l f. faultless-record rows (sender h) l f (header-sender h (c .headed))) faultless
 
-  pub lines-his : Each (λ l. of (sender h) l ≡ true) ls
-  unfolding of L2
+  pub lines-his : Each (λ l. ofActor (sender h) l ≡ true) ls
+  unfolding ofActor L2
   lines-his = each-map (λ l f. f .l2) faultless
 
   -- no two have one PAN, and no other actor holds it

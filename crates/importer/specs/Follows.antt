@@ -13,7 +13,7 @@ use Rattle.header.specs.Header.{sender, count}
 use Rattle.claims.specs.Claims.{countHolds}
 use Rattle.hgv.specs.Layout.{linesIn}
 use Rattle.register.specs.Register.{slotsIn, records}
-use Rattle.register.specs.Search.{of}
+use Rattle.register.specs.Search.{ofActor}
 use Rattle.verdicts.specs.Verdict.{taken}
 use Rattle.verdicts.specs.Laws.{taken-rejected}
 use Rattle.holdings.specs.Holdings.{others, isFull}
@@ -57,7 +57,7 @@ module _ (mode : ℕ) (reception register rows h hgc : List ℕ) (e : numberOf m
   others-same = others-stay mode (sender h) reception (slotsIn register) (records register) (taken (judged register rows h) h) fit (lines-his mode reception register rows h c)
 
   -- in mode 1 also in the same slots
-  pub places-same : isFull mode ≡ false → (i : ℕ) → i < length (records register) → of (sender h) (getD (records register) i []) ≡ false
+  pub places-same : isFull mode ≡ false → (i : ℕ) → i < length (records register) → ofActor (sender h) (getD (records register) i []) ≡ false
       → getD (following mode reception register rows h) i [] ≡ getD (records register) i []
   unfolding following
   places-same = places-stay mode (sender h) reception (slotsIn register) (records register) (taken (judged register rows h) h) fit (lines-his mode reception register rows h c)

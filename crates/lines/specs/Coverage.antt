@@ -13,7 +13,7 @@ use Rattle.theory.specs.Text.{bytes}
 use Rattle.theory.specs.Truth.{and-left, and-right, and-split}
 use Rattle.theory.specs.Every.{all, run, run-length, run-all, all-run}
 use Rattle.texts.specs.Field.{field, listed}
-use Rattle.fields.specs.Field.{between, digit, zero, blank, capital, plain}
+use Rattle.fields.specs.Field.{between, digit, zeroDigit, blank, capital, plain}
 use Rattle.characters.specs.Characters.{hex, filled}
 use Rattle.numbers.specs.Number.{number}
 use Rattle.fields.specs.Plain.{Covered, between-plain, run-covered, cover-join, listed-plain}
@@ -29,7 +29,7 @@ use Rattle.lines.specs.Rules.{L1, L5, L6, L7, L8, L9, recordHolds}
 digit-plain : (b : ℕ) → digit b ≡ true → plain b ≡ true
 digit-plain = between-plain 48 57 (omega arith)
 
-zero-plain : (b : ℕ) → zero b ≡ true → plain b ≡ true
+zero-plain : (b : ℕ) → zeroDigit b ≡ true → plain b ≡ true
 zero-plain = between-plain 48 48 (omega arith)
 
 blank-plain : (b : ℕ) → blank b ≡ true → plain b ≡ true
@@ -113,7 +113,7 @@ module _ (l : List ℕ) where
   valid-covered : validToHolds l ≡ true → Covered 101 114 l
   unfolding validToHolds
   valid-covered h =
-      either (Covered 101 114 l) (run zero 14 (validTo l)) (realTime (validTo l)) h (run-covered 101 114 l zero zero-plain)
+      either (Covered 101 114 l) (run zeroDigit 14 (validTo l)) (realTime (validTo l)) h (run-covered 101 114 l zeroDigit zero-plain)
       (λ r. run-covered 101 114 l digit digit-plain (all-run digit 14 (validTo l) (real-length (validTo l) r) (real-all (validTo l) r)))
 
   tariff-covered : tariffHolds l ≡ true → Covered 46 47 l
@@ -143,7 +143,7 @@ module _ (l : List ℕ) where
   fields-covered : fieldsHold l ≡ true → FieldsCovered
   unfolding fieldsHold
   fields-covered h =
-      let s9 = and-split (run blank 6 (shadow l) && tariffHolds l && classHolds l && productHolds l && engineHolds l && run digit 2 (co2 l) && run digit 4 (weight l) && validToHolds l && separatorHolds l) (run zero 11 (filler l)) h in
+      let s9 = and-split (run blank 6 (shadow l) && tariffHolds l && classHolds l && productHolds l && engineHolds l && run digit 2 (co2 l) && run digit 4 (weight l) && validToHolds l && separatorHolds l) (run zeroDigit 11 (filler l)) h in
       let s8 = and-split (run blank 6 (shadow l) && tariffHolds l && classHolds l && productHolds l && engineHolds l && run digit 2 (co2 l) && run digit 4 (weight l) && validToHolds l) (separatorHolds l) (s9 .0) in
       let s7 = and-split (run blank 6 (shadow l) && tariffHolds l && classHolds l && productHolds l && engineHolds l && run digit 2 (co2 l) && run digit 4 (weight l)) (validToHolds l) (s8 .0) in
       let s6 = and-split (run blank 6 (shadow l) && tariffHolds l && classHolds l && productHolds l && engineHolds l && run digit 2 (co2 l)) (run digit 4 (weight l)) (s7 .0) in
@@ -162,7 +162,7 @@ module _ (l : List ℕ) where
             (next 95 96 127 refl (run-covered 95 96 l digit digit-plain (s5 .1))
             (next 97 100 127 refl (run-covered 97 100 l digit digit-plain (s6 .1))
             (next 101 114 127 refl (valid-covered (s7 .1))
-            (next 115 116 127 refl (separator-covered (s8 .1)) (run-covered 117 127 l zero zero-plain (s9 .1)))))));
+            (next 115 116 127 refl (separator-covered (s8 .1)) (run-covered 117 127 l zeroDigit zero-plain (s9 .1)))))));
       }
 
   -- T17

@@ -17,7 +17,7 @@ use Rattle.theory.specs.Tally.{tally, tally-pick}
 use Rattle.numbers.specs.Number.{number}
 use Rattle.columns.specs.Columns.{text, panOf}
 use Rattle.lines.specs.Rules.{recordHolds}
-use Rattle.register.specs.Search.{of}
+use Rattle.register.specs.Search.{ofActor}
 use Rattle.hgv.specs.Layout.{linesOf}
 use Rattle.header.specs.Header.{sender}
 use Rattle.pairing.specs.Pairing.{marks, left}
@@ -75,7 +75,7 @@ pub record Held (h g : List ℕ) : Type 0 where
   pub rejected : number (rejectedOf g) ≡ answersIn g
   -- of the lines taken: no two have one PAN, each has the sender for its actor, and keeps L1, L5 to L10
   pub apart : distinct (map panOf (takenBy h g)) ≡ true
-  pub own : Each (λ l. of (sender h) l ≡ true) (takenBy h g)
+  pub own : Each (λ l. ofActor (sender h) l ≡ true) (takenBy h g)
   pub records : Each (λ l. recordHolds l ≡ true) (takenBy h g)
 
 module _ (h g : List ℕ) (e : linesHold h g ≡ true) where
@@ -91,7 +91,7 @@ module _ (h g : List ℕ) (e : linesHold h g ≡ true) where
   unfolding linesHold
   took = and-right (copiesHold h g && countsHold h g) (takenHold h g) e
 
-  holding : Each (λ l. of (sender h) l && recordHolds l ≡ true) (takenBy h g)
+  holding : Each (λ l. ofActor (sender h) l && recordHolds l ≡ true) (takenBy h g)
   unfolding takenHold lineHolds
   holding = each-passes (lineHolds h) (takenBy h g) (and-right (distinct (map panOf (takenBy h g))) (each (lineHolds h) (takenBy h g)) took)
 
@@ -107,6 +107,6 @@ module _ (h g : List ℕ) (e : linesHold h g ≡ true) where
         taken = eqb-true (number (takenOf g)) (length (takenBy h g)) (and-left (eqb (number (takenOf g)) (length (takenBy h g))) (eqb (number (rejectedOf g)) (answersIn g)) counted);
         rejected = eqb-true (number (rejectedOf g)) (answersIn g) (and-right (eqb (number (takenOf g)) (length (takenBy h g))) (eqb (number (rejectedOf g)) (answersIn g)) counted);
         apart = and-left (distinct (map panOf (takenBy h g))) (each (lineHolds h) (takenBy h g)) took;
-        own = each-map (λ l q. and-left (of (sender h) l) (recordHolds l) q) holding;
-        records = each-map (λ l q. and-right (of (sender h) l) (recordHolds l) q) holding;
+        own = each-map (λ l q. and-left (ofActor (sender h) l) (recordHolds l) q) holding;
+        records = each-map (λ l q. and-right (ofActor (sender h) l) (recordHolds l) q) holding;
       }

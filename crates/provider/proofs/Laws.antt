@@ -21,7 +21,7 @@ use Rattle.texts.specs.Field.{field, listed}
 use Rattle.numbers.specs.Number.{numberAfter, number}
 use Rattle.header.specs.Header.{sender}
 use Rattle.register.specs.Register.{slotsIn, slotsOf, records, usedPart}
-use Rattle.register.specs.Search.{of, countOf}
+use Rattle.register.specs.Search.{ofActor, countOf}
 use Rattle.register.specs.Laws.{slots-used, used-slots}
 use Rattle.hgc.specs.Confirmation.{answerLength}
 use Rattle.pairing.specs.Telling.{toldAt, told-left}
@@ -100,4 +100,4 @@ kept-each q xs =
 pub own-is : (copy h held who : List ℕ) → held ≡ usedPart copy → who ≡ sender h → (n : ℕ) → n ≡ countOf who (slotsOf held) → eqb n (slotsIn held) ≡ ownHolds copy h
 unfolding ownHolds countOf
 own-is copy h held who eh ew n en =
-    rw (en, eh, ew, slots-used copy, used-slots copy) (kept-each (of (sender h)) (records copy))
+    rw (en, eh, ew, slots-used copy, used-slots copy) (kept-each (ofActor (sender h)) (records copy))

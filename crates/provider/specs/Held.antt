@@ -21,7 +21,7 @@ use Rattle.hgv.specs.Layout.{linesIn, linesOf}
 use Rattle.hgv.specs.Laws.{length-lines}
 use Rattle.header.specs.Header.{sender}
 use Rattle.register.specs.Register.{slotsIn, records}
-use Rattle.register.specs.Search.{of, heldByAnother}
+use Rattle.register.specs.Search.{ofActor, heldByAnother}
 use Rattle.holdings.specs.Storing.{own-free}
 use Rattle.holdings.specs.Room.{usedAfter, used-after}
 use Rattle.pairing.specs.Pairing.{left}
@@ -81,7 +81,7 @@ module _ (h g : List ℕ) where
     -- in the sender's copy no other actor holds a PAN
     pub taken-free : (copy : List ℕ) → ownHolds copy h ≡ true → Each (λ l. heldByAnother (panOf l) (sender h) (records copy) ≡ false) (takenBy h g)
     unfolding ownHolds
-    taken-free copy o = each-map (λ l e. own-free (sender h) (panOf l) (each-passes (of (sender h)) (records copy) o)) (matched .records)
+    taken-free copy o = each-map (λ l e. own-free (sender h) (panOf l) (each-passes (ofActor (sender h)) (records copy) o)) (matched .records)
 
     -- the number of records that follow, as it is reckoned
     pub following-used : (mode : ℕ) (copy : List ℕ) → usedAfter mode (sender h) (records copy) (takenBy h g) ≡ length (following mode copy h g)

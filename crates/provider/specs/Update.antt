@@ -15,7 +15,7 @@ use Rattle.frames.specs.Frames.{footerHolds, framesHold}
 use Rattle.header.specs.Header.{sender, headerHolds}
 use Rattle.claims.specs.Claims.{versionHolds, receiverHolds, countHolds}
 use Rattle.register.specs.Register.{slotLength, slotsIn, records, inOrder}
-use Rattle.register.specs.Search.{of}
+use Rattle.register.specs.Search.{ofActor}
 use Rattle.holdings.specs.Holdings.{holdings}
 use Rattle.stops.specs.Stops.{modeHolds, notFull}
 use Rattle.receipts.specs.Receipt.{receptionOf, takenBy, receiptHolds}
@@ -24,7 +24,7 @@ use Rattle.provider.specs.Answer.{refusal, counted}
 
 -- every record in the copy is the sender's
 unfoldable pub ownHolds : List ℕ → List ℕ → Bool
-ownHolds copy h = each (of (sender h)) (records copy)
+ownHolds copy h = each (ofActor (sender h)) (records copy)
 
 -- 21, 23, 25 to 28, 29 (receiver only), 51 (another actor than the sender in the copy), 30 to 32
 unfoldable pub copyStops : ℕ → List ℕ → List ℕ → List Rule

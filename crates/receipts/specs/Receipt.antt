@@ -13,12 +13,12 @@ use Rattle.theory.specs.Walk.{each}
 use Rattle.theory.specs.Pick.{good, pick}
 use Rattle.theory.specs.Distinct.{distinct}
 use Rattle.texts.specs.Field.{field, lineEnd, listed}
-use Rattle.fields.specs.Field.{digit, zero}
+use Rattle.fields.specs.Field.{digit, zeroDigit}
 use Rattle.numbers.specs.Number.{number}
 use Rattle.times.specs.Time.{realTime}
 use Rattle.columns.specs.Columns.{text, panOf}
 use Rattle.lines.specs.Rules.{recordHolds}
-use Rattle.register.specs.Search.{of}
+use Rattle.register.specs.Search.{ofActor}
 use Rattle.hgv.specs.Layout.{footerLength, linesOf}
 use Rattle.frames.specs.Frames.{footerHolds}
 use Rattle.header.specs.Header.{sender, listSequence}
@@ -65,7 +65,7 @@ lengthForm g = leb bareLength (length g) && eqb ((length g - bareLength) % answe
 unfoldable pub headForm : List ℕ → Bool
 headForm g =
     eqs (field 1 1 g) (bytes "0") && eqs (field 2 7 g) (bytes "000002") && run digit 15 (takenOf g) && run digit 15 (rejectedOf g)
-    && eqs (field 77 82 g) (bytes "120001") && run zero 25 (field 83 107 g) && eqs (field 110 110 g) lineEnd
+    && eqs (field 77 82 g) (bytes "120001") && run zeroDigit 25 (field 83 107 g) && eqs (field 110 110 g) lineEnd
 
 -- `1`, LF; the text has a clause of its own, and so has the reason
 unfoldable pub answerForm : List ℕ → Bool
@@ -118,7 +118,7 @@ countsHold h g = eqb (number (takenOf g)) (length (takenBy h g)) && eqb (number 
 
 -- a taken line has the sender for its actor, and keeps L1, L5 to L10
 unfoldable pub lineHolds : List ℕ → List ℕ → Bool
-lineHolds h l = of (sender h) l && recordHolds l
+lineHolds h l = ofActor (sender h) l && recordHolds l
 
 -- no two taken lines share a PAN, and each holds
 unfoldable pub takenHold : List ℕ → List ℕ → Bool

@@ -22,7 +22,7 @@ use Rattle.texts.specs.Laws.{field-before}
 use Rattle.numbers.specs.Number.{decimal}
 use Rattle.numbers.specs.Laws.{decimal-digits}
 use Rattle.lines.specs.Rules.{recordHolds}
-use Rattle.register.specs.Search.{of}
+use Rattle.register.specs.Search.{ofActor}
 use Rattle.hgv.specs.Layout.{lineLength, footerLength, linesIn, lengthHolds, linesOf, footer}
 use Rattle.frames.specs.Frames.{footerHolds}
 use Rattle.hgv.specs.Laws.{length-lines, each-line, length-least}
@@ -73,9 +73,9 @@ same-texts [] = refl
 same-texts (x ∷ xs) = rw (eqs-refl x) (same-texts xs)
 
 -- of a taken line no more is asked than this: its actor is the sender, and it keeps L1, L5 to L10
-pub line-holds : (h l : List ℕ) → of (sender h) l ≡ true → recordHolds l ≡ true → lineHolds h l ≡ true
+pub line-holds : (h l : List ℕ) → ofActor (sender h) l ≡ true → recordHolds l ≡ true → lineHolds h l ≡ true
 unfolding lineHolds
-line-holds h l = and-both (of (sender h) l) (recordHolds l)
+line-holds h l = and-both (ofActor (sender h) l) (recordHolds l)
 
 -- what every answer has whose verdict has p, each of a file's answers has
 pub each-answered : {p : ℕ → Type 0} {q : List ℕ → Type 0} → ((v : ℕ) (l : List ℕ) → p v → 127 ≤ length l → q (answer v l))

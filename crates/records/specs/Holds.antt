@@ -10,7 +10,7 @@ use borrow.Author.Tests.{leb-true}
 use Rattle.theory.specs.Truth.{and-left, and-right, and-split, or-true}
 use Rattle.theory.specs.Every.{run, run-length}
 use Rattle.texts.specs.Field.{field}
-use Rattle.fields.specs.Field.{digit, zero, blank, plain}
+use Rattle.fields.specs.Field.{digit, zeroDigit, blank, plain}
 use Rattle.times.specs.Time.{realTime}
 use Rattle.times.specs.Moment.{real-length}
 use Rattle.times.specs.Order.{earlier}
@@ -32,17 +32,17 @@ valid-in l h =
     let t : Bool = run blank 6 (shadow l) && tariffHolds l && classHolds l && productHolds l && engineHolds l && run digit 2 (co2 l) && run digit 4 (weight l) in
     let k : emissionHolds l && fieldsHold l && weightHolds l ≡ true = and-right (run digit 6 (actor l) && L1 l && L5 l && L6 l && L7 l && L8 l && L9 l) (L10 l) h in
     let f : fieldsHold l ≡ true = and-right (emissionHolds l) (fieldsHold l) (and-left (emissionHolds l && fieldsHold l) (weightHolds l) k) in
-    and-right t (validToHolds l) (and-left (t && validToHolds l) (separatorHolds l) (and-left (t && validToHolds l && separatorHolds l) (run zero 11 (filler l)) f))
+    and-right t (validToHolds l) (and-left (t && validToHolds l) (separatorHolds l) (and-left (t && validToHolds l && separatorHolds l) (run zeroDigit 11 (filler l)) f))
 
 -- the end of a time is zeros or real, as the time was
-end-real : (reception v : List ℕ) → realTime reception ≡ true → run zero 14 v || realTime v ≡ true → run zero 14 (endOf reception v) || realTime (endOf reception v) ≡ true
+end-real : (reception v : List ℕ) → realTime reception ≡ true → run zeroDigit 14 v || realTime v ≡ true → run zeroDigit 14 (endOf reception v) || realTime (endOf reception v) ≡ true
 unfolding endOf
-end-real reception v r h = go (run zero 14 v) (earlier reception v) refl
+end-real reception v r h = go (run zeroDigit 14 v) (earlier reception v) refl
   where
-    go : (a b : Bool) → run zero 14 v ≡ a → run zero 14 (cond a v (cond b v reception)) || realTime (cond a v (cond b v reception)) ≡ true
+    go : (a b : Bool) → run zeroDigit 14 v ≡ a → run zeroDigit 14 (cond a v (cond b v reception)) || realTime (cond a v (cond b v reception)) ≡ true
     go true b e = h
     go false true e = h
-    go false false e = or-true (run zero 14 reception) (realTime reception) r
+    go false false e = or-true (run zeroDigit 14 reception) (realTime reception) r
 
 module _ (reception l : List ℕ) (h : recordHolds l ≡ true) (real : realTime reception ≡ true) where
   front : (a b : ℕ) → leb 2 a && leb a b && leb b 100 ≡ true → field a b (recordOf reception l) ≡ field a b l

@@ -9,7 +9,7 @@ use Rattle.theory.specs.Text.{bytes}
 use Rattle.theory.specs.Every.{run}
 use Rattle.texts.specs.Field.{field, lineEnd}
 use Rattle.texts.specs.Laws.{field-length, field-before, field-behind, field-field, field-all}
-use Rattle.fields.specs.Field.{zero}
+use Rattle.fields.specs.Field.{zeroDigit}
 use Rattle.times.specs.Order.{earlier}
 use Rattle.columns.specs.Columns.{validTo}
 use Rattle.lines.specs.End.{endOf, recordOf}
@@ -20,21 +20,21 @@ either true b x y = refl
 either false b x y = refl
 
 -- as a writer learns it: z and y are what the two tests say
-module _ (reception v : List ℕ) (z y : Bool) (ez : z ≡ run zero 14 v) (ey : y ≡ earlier reception v) where
+module _ (reception v : List ℕ) (z y : Bool) (ez : z ≡ run zeroDigit 14 v) (ey : y ≡ earlier reception v) where
   -- zeros, and a time later than reception, stay
   pub end-stays : z || y ≡ true → v ≡ endOf reception v
   unfolding endOf
-  end-stays h = sym (either (run zero 14 v) (earlier reception v) v reception ∙ rw (← ez, ← ey, h))
+  end-stays h = sym (either (run zeroDigit 14 v) (earlier reception v) v reception ∙ rw (← ez, ← ey, h))
 
   -- any other becomes reception
   pub end-cut : z || y ≡ false → reception ≡ endOf reception v
   unfolding endOf
-  end-cut h = sym (either (run zero 14 v) (earlier reception v) v reception ∙ rw (← ez, ← ey, h))
+  end-cut h = sym (either (run zeroDigit 14 v) (earlier reception v) v reception ∙ rw (← ez, ← ey, h))
 
 pub length-end : (reception v : List ℕ) → length v ≡ 14 → length reception ≡ 14 → length (endOf reception v) ≡ 14
-length-end reception v h k = go (run zero 14 v || earlier reception v) refl
+length-end reception v h k = go (run zeroDigit 14 v || earlier reception v) refl
   where
-    go : (t : Bool) → run zero 14 v || earlier reception v ≡ t → length (endOf reception v) ≡ 14
+    go : (t : Bool) → run zeroDigit 14 v || earlier reception v ≡ t → length (endOf reception v) ≡ 14
     go true e = rw (← end-stays reception v _ _ refl refl e) h
     go false e = rw (← end-cut reception v _ _ refl refl e) k
 

@@ -20,7 +20,7 @@ use Rattle.theory.specs.Table.{length-cut}
 use Rattle.columns.specs.Columns.{actor, panOf}
 use Rattle.register.specs.Register.{slotLength, slotsMost, slotsIn, slotsOf, usedForm, freeForm, records, usedIn, inOrder}
 use Rattle.register.specs.Laws.{used-most, used-fits, records-chop, slots-front}
-use Rattle.register.specs.Search.{of, countOf}
+use Rattle.register.specs.Search.{ofActor, countOf}
 
 -- the used slots lie within the block
 pub used-room : (b : List ℕ) (used : ℕ) → used ≡ usedIn b → used * slotLength ≤ length b
@@ -29,14 +29,14 @@ used-room b used u = rw u (used-fits b)
 -- ---- an actor's records
 
 module _ (who : List ℕ) where
-  pub of-is : (x : List ℕ) (r : Bool) → r ≡ of who x → r ≡ eqs who (actor x)
-  unfolding of
+  pub of-is : (x : List ℕ) (r : Bool) → r ≡ ofActor who x → r ≡ eqs who (actor x)
+  unfolding ofActor
   of-is x r e = e ∙ eqs-sym (actor x) who
 
   count-actor : (R : List (List ℕ)) → count who (map actor R) ≡ countOf who R
-  unfolding countOf sift count of
+  unfolding countOf sift count ofActor
   count-actor [] = refl
-  count-actor (x ∷ R) = rw (count-actor R, eqs-sym who (actor x)) (sym (length-onto (of who x) x (sift (of who) R)))
+  count-actor (x ∷ R) = rw (count-actor R, eqs-sym who (actor x)) (sym (length-onto (ofActor who x) x (sift (ofActor who) R)))
 
   pub count-is : (b : List ℕ) (i k : ℕ) → Counted slotLength (slotsIn b) actor who b i k → slotsIn b ≤ i → k ≡ countOf who (slotsOf b)
   unfolding slotsOf

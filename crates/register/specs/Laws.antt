@@ -21,7 +21,7 @@ use Rattle.theory.specs.Join.{flat, flat-chop, each-chop, chop-take, chop-split
 use Rattle.theory.specs.Pad.{free, pad, chop-pad, front-pad, length-flat-pad}
 use Rattle.theory.specs.Place.{place, place-most, length-front-place, front-chop, drop-chop}
 use Rattle.texts.specs.Field.{field, lineEnd}
-use Rattle.fields.specs.Field.{null}
+use Rattle.fields.specs.Field.{zeroByte}
 use Rattle.columns.specs.Columns.{panOf}
 use Rattle.lines.specs.Rules.{recordHolds}
 use Rattle.register.specs.Register.{slotLength, slotsMost, slotsIn, slotsOf, marked, usedForm, freeForm, records, usedIn, usedPart, inOrder}
@@ -63,16 +63,16 @@ used-slots b = sym (length-chop slotLength (slotsIn (usedPart b)) (usedPart b)) 
 
 -- ---- free slots
 
-nulls : (s : List ℕ) → all null s ≡ true → s ≡ replicate (length s) 0
+zero-bytes : (s : List ℕ) → all zeroByte s ≡ true → s ≡ replicate (length s) 0
 unfolding all
-nulls [] h = refl
-nulls (x ∷ s) h =
-    let e : x ≡ 0 = omega (arith, leb-true x 0 (and-right (leb 0 x) (leb x 0) (and-left (null x) (all null s) h))) in
-    rw (e, ← nulls s (and-right (null x) (all null s) h))
+zero-bytes [] h = refl
+zero-bytes (x ∷ s) h =
+    let e : x ≡ 0 = omega (arith, leb-true x 0 (and-right (leb 0 x) (leb x 0) (and-left (zeroByte x) (all zeroByte s) h))) in
+    rw (e, ← zero-bytes s (and-right (zeroByte x) (all zeroByte s) h))
 
 free-is : (s : List ℕ) → freeForm s ≡ true → s ≡ free slotLength
 unfolding freeForm free
-free-is s h = nulls s (run-all null slotLength s h) ∙ rw (run-length null slotLength s h)
+free-is s h = zero-bytes s (run-all zeroByte slotLength s h) ∙ rw (run-length zeroByte slotLength s h)
 
 free-form : freeForm (free slotLength) ≡ true
 unfolding freeForm run all free

@@ -13,7 +13,7 @@ use Rattle.theory.specs.Walk.{each}
 use Rattle.theory.specs.Distinct.{distinct}
 use Rattle.theory.specs.Pad.{front}
 use Rattle.texts.specs.Field.{field, lineEnd}
-use Rattle.fields.specs.Field.{null}
+use Rattle.fields.specs.Field.{zeroByte}
 use Rattle.columns.specs.Columns.{panOf}
 use Rattle.lines.specs.Rules.{recordHolds}
 
@@ -41,7 +41,7 @@ usedForm s = marked s && recordHolds s && eqs (field 128 128 s) lineEnd
 
 -- a free slot is 128 zero bytes
 unfoldable pub freeForm : List ℕ → Bool
-freeForm s = run null slotLength s
+freeForm s = run zeroByte slotLength s
 
 -- the records: the used slots, which come first
 unfoldable pub records : List ℕ → List (List ℕ)

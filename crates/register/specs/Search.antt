@@ -17,16 +17,16 @@ unfoldable pub placeOf : List ℕ → List (List ℕ) → ℕ
 placeOf pan R = place (holdsPan pan) R
 
 -- a record of this actor
-unfoldable pub of : List ℕ → List ℕ → Bool
-of who r = eqs (actor r) who
+unfoldable pub ofActor : List ℕ → List ℕ → Bool
+ofActor who r = eqs (actor r) who
 
 -- a record with this PAN under another actor
 unfoldable pub holdsForeign : List ℕ → List ℕ → List ℕ → Bool
-holdsForeign pan who r = holdsPan pan r && not (of who r)
+holdsForeign pan who r = holdsPan pan r && not (ofActor who r)
 
 -- L11 is broken where the register holds the line's PAN under another actor
 unfoldable pub heldByAnother : List ℕ → List ℕ → List (List ℕ) → Bool
 heldByAnother pan who R = some (holdsForeign pan who) R
 
 unfoldable pub countOf : List ℕ → List (List ℕ) → ℕ
-countOf who R = length (sift (of who) R)
+countOf who R = length (sift (ofActor who) R)

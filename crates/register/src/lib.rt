@@ -10,7 +10,7 @@ ghost use Rattle.theory.specs.Walk.{each};
 ghost use Rattle.theory.specs.Distinct.{distinct};
 ghost use Rattle.columns.specs.Columns.{panOf};
 ghost use Rattle.register.specs.Register.{slotsOf, marked, usedForm, freeForm, usedIn, usedPart, inOrder};
-ghost use Rattle.register.specs.Search.{holdsPan, placeOf, of, holdsForeign, heldByAnother, countOf};
+ghost use Rattle.register.specs.Search.{holdsPan, placeOf, ofActor, holdsForeign, heldByAnother, countOf};
 
 const SLOT: usize = 128;
 
@@ -67,7 +67,7 @@ pub fn find(b: &[u8], pan: &[u8]) -> usize
 }
 
 fn is_of(r: &[u8], who: &[u8]) -> bool
-    ensures { λ t. ⌜ t ≡ of (now (who .entry)) (now (r .entry)) ⌝ }
+    ensures { λ t. ⌜ t ≡ ofActor (now (who .entry)) (now (r .entry)) ⌝ }
 {
     texts::has_text(r, columns::ACTOR_FROM, columns::ACTOR_TO, who)
 }
@@ -121,7 +121,7 @@ fn is_used(s: &[u8]) -> bool
 fn is_free(s: &[u8]) -> bool
     ensures { λ r. ⌜ r ≡ freeForm (now (s .entry)) ⌝ }
 {
-    fields::is_nulls(s, SLOT)
+    fields::is_zero_bytes(s, SLOT)
 }
 
 // Has a slot the form of a used one, or that of a free one.

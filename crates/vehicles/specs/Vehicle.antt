@@ -7,7 +7,7 @@ use lib.Dec.{eqb, leb, ltb}
 use Rattle.theory.specs.Text.{bytes}
 use Rattle.theory.specs.Every.{run}
 use Rattle.texts.specs.Field.{listed}
-use Rattle.fields.specs.Field.{digit, zero, blank}
+use Rattle.fields.specs.Field.{digit, zeroDigit, blank}
 use Rattle.numbers.specs.Number.{number}
 use Rattle.times.specs.Time.{realTime}
 use Rattle.plates.specs.Plate.{plateCharacters, separator}
@@ -35,7 +35,7 @@ engineHolds l = run digit 3 (engine l) && (leb (number (engine l)) 52 || eqb (nu
 
 -- Valid to: 14 zeros or a real time
 unfoldable pub validToHolds : List ℕ → Bool
-validToHolds l = run zero 14 (validTo l) || realTime (validTo l)
+validToHolds l = run zeroDigit 14 (validTo l) || realTime (validTo l)
 
 -- separator, of a plate of so many characters
 unfoldable pub separatorHolds : List ℕ → Bool
@@ -45,7 +45,7 @@ separatorHolds l = separator (separatorOf l) (plateCharacters (plateOf l))
 unfoldable pub fieldsHold : List ℕ → Bool
 fieldsHold l =
     run blank 6 (shadow l) && tariffHolds l && classHolds l && productHolds l && engineHolds l
-    && run digit 2 (co2 l) && run digit 4 (weight l) && validToHolds l && separatorHolds l && run zero 11 (filler l)
+    && run digit 2 (co2 l) && run digit 4 (weight l) && validToHolds l && separatorHolds l && run zeroDigit 11 (filler l)
 
 -- tariff 12 or 22: a weight of at most 0350, in 10 kg; 0000 is missing
 unfoldable pub weightHolds : List ℕ → Bool

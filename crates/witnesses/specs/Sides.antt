@@ -30,7 +30,7 @@ use Rattle.lines.specs.End.{endOf, recordOf}
 use Rattle.lines.specs.Rules.{L1, L2, L3, L4, L5, L6, L7, stateless, L8, L9, lineRules, recordHolds}
 use Rattle.lines.specs.Starred.{starred}
 use Rattle.register.specs.Register.{slotsOf, marked, usedForm, freeForm, records, usedPart, inOrder}
-use Rattle.register.specs.Search.{holdsPan, placeOf, of, holdsForeign, heldByAnother, countOf}
+use Rattle.register.specs.Search.{holdsPan, placeOf, ofActor, holdsForeign, heldByAnother, countOf}
 use Rattle.hgv.specs.Layout.{linesIn, lengthHolds, body, linesOf, footer}
 use Rattle.frames.specs.Frames.{footerForm, footerHolds, framed, framesHold}
 use Rattle.sequences.specs.Sequence.{sequence}
@@ -94,7 +94,7 @@ taken-both :
     × ((eqs (sender files.next) who ≡ true)
     × ((after first-after files.next ≡ files.line ++ files.other)
     × (flat (pad slotLength 2 (own who (records (files.line ++ files.other)))) ≡ files.line ++ files.other)))))
-unfolding empty own sift bump distinct all run leading choose first flat onto free pad frontOn front chop good bad pick eqs mem scan tally each some field listed filledTo filled numberAfter number decimal pan doubled counted luhnSum luhn allowed plate nationality separated separator row rows sentBy beginning fitting known begun fitted daysIn realTime realDate tariffHolds classHolds emissionHolds productHolds engineHolds validToHolds separatorHolds fieldsHold weightHolds L10 endOf recordOf L1 L2 L3 L4 L5 L6 L7 stateless L8 L9 lineRules recordHolds starred slotsOf marked usedForm freeForm records usedPart inOrder holdsPan placeOf of holdsForeign heldByAnother countOf linesIn lengthHolds body linesOf footer footerForm footerHolds framed framesHold sequence previousHolds headerHolds versionHolds incrementalOnly receiverHolds countHolds zeros outcome names counts head answer said answers foot confirmation ownRules verdictRules verdict verdictsOf fileVerdicts taken rejected storedOn stored storedAll others replacedAll isFull holdings usedAfter modeHolds notFull addressed formStops formStop judged following confirmed roomStops stops numberOf unlessStopped refusal success registerAfter hgcAfter written told answered
+unfolding empty own sift bump distinct all run leading choose first flat onto free pad frontOn front chop good bad pick eqs mem scan tally each some field listed filledTo filled numberAfter number decimal pan doubled counted luhnSum luhn allowed plate nationality separated separator row rows sentBy beginning fitting known begun fitted daysIn realTime realDate tariffHolds classHolds emissionHolds productHolds engineHolds validToHolds separatorHolds fieldsHold weightHolds L10 endOf recordOf L1 L2 L3 L4 L5 L6 L7 stateless L8 L9 lineRules recordHolds starred slotsOf marked usedForm freeForm records usedPart inOrder holdsPan placeOf ofActor holdsForeign heldByAnother countOf linesIn lengthHolds body linesOf footer footerForm footerHolds framed framesHold sequence previousHolds headerHolds versionHolds incrementalOnly receiverHolds countHolds zeros outcome names counts head answer said answers foot confirmation ownRules verdictRules verdict verdictsOf fileVerdicts taken rejected storedOn stored storedAll others replacedAll isFull holdings usedAfter modeHolds notFull addressed formStops formStop judged following confirmed roomStops stops numberOf unlessStopped refusal success registerAfter hgcAfter written told answered
 taken-both = (refl, (refl, (refl, (refl, (refl, refl)))))
 
 -- the answers of the import and of his update

@@ -1,17 +1,17 @@
 -- Assumes nothing.
 use mathlib.Core.Path.{sym, _∙_}
 use Rattle.applying.proofs.Removing.{marked-own, marked-other}
-use Rattle.register.specs.Search.{of}
+use Rattle.register.specs.Search.{ofActor}
 use borrow.Author.Needs.{needs}
 use Rattle.applying.proofs.mark_of.Statement.{statement}
 use Rattle.applying.proofs.mark_of.Tie as tie
 
 returns : tie.Need-returns
-unfolding of
+unfolding ofActor
 returns c = marked-own _ _ (sym (c .before .has-text .ensures) ∙ c .if1 .taken)
 
 returns-2 : tie.Need-returns-2
-unfolding of
+unfolding ofActor
 returns-2 c = marked-other _ _ (sym (c .before .has-text .ensures) ∙ c .if1 .left)
 
 pub mark-of-spec : {M : Type 1} → statement M

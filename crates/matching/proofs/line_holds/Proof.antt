@@ -1,12 +1,12 @@
 -- Assumes nothing.
-use Rattle.register.specs.Search.{of}
+use Rattle.register.specs.Search.{ofActor}
 use Rattle.receipts.specs.Receipt.{lineHolds}
 use borrow.Author.Needs.{needs}
 use Rattle.matching.proofs.line_holds.Statement.{statement}
 use Rattle.matching.proofs.line_holds.Tie as tie
 
 returns : tie.Need-returns
-unfolding lineHolds of
+unfolding lineHolds ofActor
 returns c = rw (c .is-record .ensures, c .before .has-text .ensures, c .before .before .sender .ensures)
 
 pub line-holds-spec : {M : Type 1} → statement M

@@ -6,7 +6,7 @@ use Rattle.register.proofs.is_free.Tie as tie
 
 returns : tie.Need-returns
 unfolding freeForm
-returns c = c .is-nulls .ensures
+returns c = c .is-zero-bytes .ensures
 
 pub is-free-spec : {M : Type 1} → statement M
 is-free-spec =

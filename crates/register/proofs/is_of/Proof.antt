@@ -1,11 +1,11 @@
 -- Assumes nothing.
 use borrow.Author.Needs.{needs}
-use Rattle.register.specs.Search.{of}
+use Rattle.register.specs.Search.{ofActor}
 use Rattle.register.proofs.is_of.Statement.{statement}
 use Rattle.register.proofs.is_of.Tie as tie
 
 returns : tie.Need-returns
-unfolding of
+unfolding ofActor
 returns c = c .has-text .ensures
 
 pub is-of-spec : {M : Type 1} → statement M
