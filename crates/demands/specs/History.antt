@@ -1,20 +1,19 @@
--- A provider's history: every sequence of imports, by any providers, in any mode, with any rows, receptions and buffers,
--- accepted and refused, and his updates between them. It speaks of any outcomes that the contracts of `import` and `update`
--- admit. Assumes nothing.
-use mathlib.Core.Path.{_≡_, refl}
-use mathlib.Core.Bool.{Bool, true, false}
-use mathlib.Core.List.{List, [], _∷_}
+-- The two sides of demand 3, apart. Ours: every sequence of imports, by any providers, in any mode, with any rows, receptions
+-- and buffers, accepted and refused, and what each accepted one sends back. His: a replay of what was sent to him, whenever he
+-- does it. Both speak of any outcomes that the contracts of `import` and `update` admit. Assumes nothing.
+use mathlib.Core.Path.{_≡_}
+use mathlib.Core.Bool.{Bool}
+use mathlib.Core.List.{List, [], _∷_, map}
 use Prim.Native.Nat.{ℕ, _*_, _≤_}
-use lib.Dec.{eqb}
 use lib.ListN.{take, replicate}
-use borrow.Author.Tests.{eqb-true, eqb-false}
 use Rattle.theory.specs.Same.{eqs}
+use Rattle.theory.specs.Keep.{sift}
 use Rattle.header.specs.Header.{sender}
 use Rattle.register.specs.Register.{slotLength, slotsMost}
 use Rattle.importer.specs.declared.Imported.{Imported}
-use Rattle.importer.specs.Outcomes.{Outcome}
+use Rattle.importer.specs.Outcomes.{Outcome as Import}
 use Rattle.provider.specs.declared.Counted.{Counted}
-use Rattle.provider.specs.Outcomes.{UpdateOutcome}
+use Rattle.provider.specs.Outcomes.{UpdateOutcome as Update}
 
 -- what is handed over at an import beside the register: the mode, the reception, the issuer rows, the HGV, the HGC's buffer
 pub record Handed : Type 0 where
@@ -24,45 +23,72 @@ pub record Handed : Type 0 where
   pub hgv : List ℕ
   pub hgc : List ℕ
 
--- an import's answer, and that of the update that followed it
-pub record Update : Type 0 where
-  pub imported : Imported
+-- of what was handed over the import answered r, and left the register b and the buffer g
+abbrev pub Imports : Handed → List ℕ → Imported → List ℕ → List ℕ → Type 0
+Imports f register r b g = Import (f .mode) (f .reception) register (f .rows) (f .hgv) (f .hgc) r b g
+
+-- what a provider has of an accepted import of his: the mode, his HGV, and the HGC
+pub record Sent : Type 0 where
+  pub mode : ℕ
+  pub hgv : List ℕ
+  pub hgc : List ℕ
+
+-- what he has to do on his side
+pub data Entry : Type 0 where
+  -- to update his copy by what was sent
+  apply : Sent → Entry
+
+-- what happened on our side: the entry that follows from it, and what its update is to answer
+pub record Event : Type 0 where
+  pub entry : Entry
   pub counted : Counted
 
--- the update answered 0, with the import's taken and rejected
-abbrev pub Agrees : Update → Type 0
-Agrees u = u .counted ≡ record { number = 0; taken = u .imported .taken; rejected = u .imported .rejected }
+-- the HGC is the buffer after the import, cut at the length answered; the update is to answer 0, with the import's own counts
+unfoldable pub acceptance : Handed → Imported → List ℕ → Event
+acceptance f r g =
+    record {
+      entry = apply (record { mode = f .mode; hgv = f .hgv; hgc = take (r .length) g });
+      counted = record { number = 0; taken = r .taken; rejected = r .rejected };
+    }
+
+-- an accepted import is his where he is the sender
+unfoldable pub concerns : List ℕ → Entry → Bool
+concerns who (apply s) = eqs (sender (s .hgv)) who
+
+-- what is his, in our order
+unfoldable pub his : List ℕ → List Event → List Event
+his who es = sift (λ e. concerns who (e .entry)) es
+
+abbrev pub entries : List Event → List Entry
+entries es = map (λ e. e .entry) es
+
+abbrev pub answers : List Event → List Counted
+answers es = map (λ e. e .counted) es
 
 -- n free slots
 unfoldable pub empty : ℕ → List ℕ
 empty n = replicate (n * slotLength) 0
 
--- of what was handed over the import answered r, and left the register b and the buffer g
-abbrev pub Import : Handed → List ℕ → Imported → List ℕ → List ℕ → Type 0
-Import f register r b g = Outcome (f .mode) (f .reception) register (f .rows) (f .hgv) (f .hgc) r b g
+-- one more, behind all before it
+infixl 20 _▸_
+abbrev pub _▸_ : {A : Type 0} → List A → A → List A
+xs ▸ x = x ∷ xs
 
--- the register and the copy of the provider `who` after a sequence of events, and the updates that he made
-pub data History (who : List ℕ) (n : ℕ) : List ℕ → List ℕ → List Update → Type 0 where
-  -- both start with n free slots
-  start : n ≤ slotsMost → History who n (empty n) (empty n) []
-  -- a file of his was accepted, and he applied what was sent back
-  applied : {register copy : List ℕ} {us : List Update} → History who n register copy us → (f : Handed) (r : Imported) (b g : List ℕ) (u : Counted) (c : List ℕ)
-      → Import f register r b g → r .number ≡ 0 → eqs (sender (f .hgv)) who ≡ true → UpdateOutcome (f .mode) copy (f .hgv) (take (r .length) g) u c
-      → History who n b c (record { imported = r; counted = u } ∷ us)
+-- our side: the register after a sequence of imports, and what was sent back
+pub data Ours (n : ℕ) : List ℕ → List Event → Type 0 where
+  -- it starts with n free slots
+  start : n ≤ slotsMost → Ours n (empty n) []
+  -- a file was accepted
+  accepted : {register : List ℕ} {es : List Event} → Ours n register es → (f : Handed) (r : Imported) (b g : List ℕ)
+      → Imports f register r b g → r .number ≡ 0 → Ours n b (es ▸ acceptance f r g)
   -- a file was refused
-  refused : {register copy : List ℕ} {us : List Update} → History who n register copy us → (f : Handed) (r : Imported) (b g : List ℕ)
-      → Import f register r b g → (r .number ≡ 0 → ⊥) → History who n b copy us
-  -- a file of another was accepted
-  another : {register copy : List ℕ} {us : List Update} → History who n register copy us → (f : Handed) (r : Imported) (b g : List ℕ)
-      → Import f register r b g → r .number ≡ 0 → eqs (sender (f .hgv)) who ≡ false → History who n b copy us
+  refused : {register : List ℕ} {es : List Event} → Ours n register es → (f : Handed) (r : Imported) (b g : List ℕ)
+      → Imports f register r b g → (r .number ≡ 0 → ⊥) → Ours n b es
 
--- it goes on whatever is handed over next, and whatever of the outcomes that the contract admits comes of it
-pub goes-on : {who : List ℕ} {n : ℕ} {register copy : List ℕ} {us : List Update} → History who n register copy us → (f : Handed) (r : Imported) (b g : List ℕ)
-    → Import f register r b g → (c : List ℕ) × (vs : List Update) × History who n b c vs
-unfolding UpdateOutcome
-goes-on {who} {n} {register} {copy} {us} s f r b g o = go (eqb (r .number) 0) (eqs (sender (f .hgv)) who) refl refl
-  where
-    go : (z t : Bool) → eqb (r .number) 0 ≡ z → eqs (sender (f .hgv)) who ≡ t → (c : List ℕ) × (vs : List Update) × History who n b c vs
-    go true true e d = (_, _, applied s f r b g _ _ o (eqb-true (r .number) 0 e) d (refl, refl))
-    go true false e d = (copy, us, another s f r b g o (eqb-true (r .number) 0 e) d)
-    go false t e d = (copy, us, refused s f r b g o (eqb-false (r .number) 0 e))
+-- his side: the copy after he did what he had to, once and in this order, and what his updates answered
+pub data Replay (n : ℕ) : List Entry → List ℕ → List Counted → Type 0 where
+  -- it starts with n free slots
+  start : Replay n [] (empty n) []
+  -- he applied what was sent
+  applied : {es : List Entry} {copy : List ℕ} {us : List Counted} → Replay n es copy us → (s : Sent) (u : Counted) (c : List ℕ)
+      → Update (s .mode) copy (s .hgv) (s .hgc) u c → Replay n (es ▸ apply s) c (us ▸ u)

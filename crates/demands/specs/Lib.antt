@@ -4,5 +4,5 @@ pub mod Read
 pub mod Own
 pub mod Mirror
 pub mod History
-pub mod Kept
-pub mod Sequence
+pub mod Imports
+pub mod Replays

@@ -1,0 +1,58 @@
+-- What any outcome of an import has: at a stop zeros, and every lent byte as it was; at 0 what the definitions say. Assumes nothing.
+use mathlib.Core.Path.{_≡_, refl, sym, ap, _∙_}
+use mathlib.Core.List.{List}
+use Prim.Native.Nat.{ℕ, zero, suc}
+use native.Mathlib.Omega.{arith}
+use Rattle.theory.specs.Stopped.{unlessStopped, at-stop, at-success}
+use Rattle.importer.specs.declared.Imported.{Imported}
+use Rattle.importer.specs.Import.{numberOf, refusal, success, written, told, answer, registerAfter, hgcAfter}
+use Rattle.importer.specs.Outcomes.{Outcome as Import}
+use Rattle.importer.specs.Numbers.{stop-answer, stop-register, stop-hgc, done-answer, done-register, done-hgc}
+use Rattle.demands.specs.History.{Handed, Imports}
+
+-- the number answered is that of the first stop that holds
+number-answered : (mode : ℕ) (reception register rows h hgc : List ℕ) → answer mode reception register rows h hgc .number ≡ numberOf mode reception register rows h hgc
+unfolding answer success refusal
+number-answered mode reception register rows h hgc = go (numberOf mode reception register rows h hgc)
+  where
+    go : (n : ℕ) → unlessStopped n (success reception register rows h) (refusal n) .number ≡ n
+    go zero = ap (λ (r : Imported). r .number) (at-success 0 (success reception register rows h) (refusal 0) refl)
+    go (suc n) = ap (λ (r : Imported). r .number) (at-stop (suc n) (success reception register rows h) (refusal (suc n)) (λ z. omega arith))
+
+module _ (f : Handed) (register : List ℕ) (r : Imported) (b g : List ℕ) (o : Imports f register r b g) where
+  pub number-is : r .number ≡ numberOf (f .mode) (f .reception) register (f .rows) (f .hgv) (f .hgc)
+  unfolding Import
+  number-is = ap (λ (a : Imported). a .number) (o .0) ∙ number-answered (f .mode) (f .reception) register (f .rows) (f .hgv) (f .hgc)
+
+  -- ---- a stop
+
+  module _ (k : r .number ≡ 0 → ⊥) where
+    pub refused-answer : r ≡ refusal (r .number)
+    unfolding Import
+    refused-answer = o .0 ∙ sym (stop-answer (f .mode) (f .reception) register (f .rows) (f .hgv) (f .hgc) (r .number) number-is k)
+
+    pub refused-register : b ≡ register
+    unfolding Import
+    refused-register = o .1 .0 ∙ sym (stop-register (f .mode) (f .reception) register (f .rows) (f .hgv) (f .hgc) (r .number) number-is k)
+
+    pub refused-hgc : g ≡ f .hgc
+    unfolding Import
+    refused-hgc = o .1 .1 ∙ sym (stop-hgc (f .mode) (f .reception) register (f .rows) (f .hgv) (f .hgc) (r .number) number-is k)
+
+  -- ---- success
+
+  module _ (z : r .number ≡ 0) where
+    pub number-0 : numberOf (f .mode) (f .reception) register (f .rows) (f .hgv) (f .hgc) ≡ 0
+    number-0 = sym number-is ∙ z
+
+    pub done-is : r ≡ success (f .reception) register (f .rows) (f .hgv)
+    unfolding Import
+    done-is = o .0 ∙ sym (done-answer (f .mode) (f .reception) register (f .rows) (f .hgv) (f .hgc) number-0)
+
+    pub register-is : b ≡ written (f .mode) (f .reception) register (f .rows) (f .hgv)
+    unfolding Import
+    register-is = o .1 .0 ∙ sym (done-register (f .mode) (f .reception) register (f .rows) (f .hgv) (f .hgc) number-0)
+
+    pub hgc-is : g ≡ told (f .reception) register (f .rows) (f .hgv) (f .hgc)
+    unfolding Import
+    hgc-is = o .1 .1 ∙ sym (done-hgc (f .mode) (f .reception) register (f .rows) (f .hgv) (f .hgc) number-0)
