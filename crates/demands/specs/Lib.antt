@@ -5,4 +5,10 @@ pub mod Own
 pub mod Mirror
 pub mod History
 pub mod Imports
+pub mod Answered
 pub mod Replays
+pub mod Verdicts
+pub mod Judging
+pub mod Exact
+pub mod Demand2
+pub mod Demand3
