@@ -118,12 +118,14 @@ module _ (f : Handed) (register : List ℕ) (r : Imported) (b g : List ℕ) (o :
     module _ (block : List ℕ) (u : Counted) (w : List ℕ) (p : ReadBack (f .hgv) (take (r .length) g) block u w) where
       pub read-is : linesIn (f .hgv) ≤ length block → (u ≡ record { number = 0; taken = r .taken; rejected = r .rejected }) × (w ≡ vs ++ drop (linesIn (f .hgv)) block)
       unfolding Import ReadBack sentBack sameCounts
-      read-is m =
-          (rw (p .0, o .1 .1, o .0) (read-answer (f .mode) (f .reception) register (f .rows) (f .hgv) (f .hgc) e block m),
-           rw (p .1, o .1 .1, o .0, ← judged-is) (read-verdicts (f .mode) (f .reception) register (f .rows) (f .hgv) (f .hgc) e block m))
+      read-is m = (
+        rw (p .0, o .1 .1, o .0) (read-answer (f .mode) (f .reception) register (f .rows) (f .hgv) (f .hgc) e block m),
+        rw (p .1, o .1 .1, o .0, ← judged-is) (read-verdicts (f .mode) (f .reception) register (f .rows) (f .hgv) (f .hgc) e block m),
+      )
 
       pub short-is : length block < linesIn (f .hgv) → (u ≡ refusal 53) × (w ≡ block)
       unfolding Import ReadBack sentBack
-      short-is m =
-          (rw (p .0, o .1 .1, o .0) (short-answer (f .mode) (f .reception) register (f .rows) (f .hgv) (f .hgc) e block m),
-           rw (p .1, o .1 .1, o .0) (short-block (f .mode) (f .reception) register (f .rows) (f .hgv) (f .hgc) e block m))
+      short-is m = (
+        rw (p .0, o .1 .1, o .0) (short-answer (f .mode) (f .reception) register (f .rows) (f .hgv) (f .hgc) e block m),
+        rw (p .1, o .1 .1, o .0) (short-block (f .mode) (f .reception) register (f .rows) (f .hgv) (f .hgc) e block m),
+      )

@@ -1,78 +1,78 @@
--- What the definitions say of small files. The four idle builds are shut out by it: one that always stops, one that gives the same
--- HGC for all files, one that leaves the register unwritten, one that imports the first file only; and so is an HGC that has the
--- stored end. Assumes nothing.
-use mathlib.Core.Path.{_≡_, refl}
-use mathlib.Core.Bool.{false}
+-- The four idle builds are shut out: whatever meets the contract of `import` does not always stop, does not answer the same HGC to all
+-- files, does not leave the register unwritten, and does not import the first file alone. Assumes nothing.
+use mathlib.Core.Path.{_≡_, refl, sym, ap, _∙_}
+use mathlib.Core.Bool.{false, true≢false}
 use mathlib.Core.List.{List, _++_}
-use lib.ListN.{drop, replicate}
 use Prim.Native.Nat.{ℕ}
-use Rattle.theory.specs.Count.{bump}
-use Rattle.theory.specs.Distinct.{distinct}
-use Rattle.theory.specs.Every.{all, run, leading}
-use Rattle.theory.specs.First.{choose, first}
-use Rattle.theory.specs.Join.{flat}
-use Rattle.theory.specs.Keep.{onto}
-use Rattle.theory.specs.Pad.{free, pad, frontOn, front}
-use Rattle.theory.specs.Parts.{chop}
-use Rattle.theory.specs.Pick.{good, bad, pick}
-use Rattle.theory.specs.Same.{eqs, mem}
-use Rattle.theory.specs.Scan.{takenNext, scan}
-use Rattle.theory.specs.Tally.{tally}
-use Rattle.theory.specs.Walk.{each, some}
-use Rattle.texts.specs.Field.{field, listed}
-use Rattle.characters.specs.Characters.{filledTo, filled}
-use Rattle.numbers.specs.Number.{numberAfter, number, decimal}
-use Rattle.pans.specs.Pan.{pan, doubled, counted, luhnSum, luhn}
-use Rattle.plates.specs.Plate.{allowed, plate, nationality, separated, separator}
-use Rattle.issuers.specs.Rows.{row, rows, sentBy, beginning, fitting, known, begun, fitted}
-use Rattle.times.specs.Time.{daysIn, realTime, realDate}
-use Rattle.vehicles.specs.Vehicle.{tariffHolds, classHolds, emissionHolds, productHolds, engineHolds, validToHolds, separatorHolds, fieldsHold, weightHolds, L10}
-use Rattle.times.specs.Order.{earlier}
-use Rattle.lines.specs.End.{endOf, recordOf}
-use Rattle.lines.specs.Rules.{L1, L2, L3, L4, L5, L6, L7, stateless, L8, L9, lineRules, recordHolds}
-use Rattle.lines.specs.Starred.{starred}
-use Rattle.register.specs.Register.{slotsOf, marked, usedForm, freeForm, records, usedPart, inOrder}
-use Rattle.register.specs.Search.{holdsPan, placeOf, ofActor, holdsForeign, heldByAnother, countOf}
-use Rattle.hgv.specs.Layout.{linesIn, lengthHolds, body, linesOf, footer}
-use Rattle.frames.specs.Frames.{footerForm, footerHolds, framed, framesHold}
-use Rattle.sequences.specs.Sequence.{sequence}
-use Rattle.header.specs.Header.{previousHolds, headerHolds}
-use Rattle.claims.specs.Claims.{versionHolds, incrementalOnly, receiverHolds, countHolds}
-use Rattle.hgc.specs.Confirmation.{zeros, outcome, names, counts, head, answer, said, answers, foot, confirmation}
-use Rattle.verdicts.specs.Verdict.{ownRules, verdictRules, verdict, verdictsOf, fileVerdicts, taken, rejected}
-use Rattle.holdings.specs.Holdings.{storedOn, stored, storedAll, others, replacedAll, isFull, holdings}
-use Rattle.holdings.specs.Room.{usedAfter}
-use Rattle.stops.specs.Stops.{modeHolds, notFull, addressed, formStops, formStop}
-use Rattle.theory.specs.Stopped.{unlessStopped}
-use Rattle.importer.specs.Import.{judged, following, confirmed, roomStops, stops, numberOf, refusal, success, registerAfter, hgcAfter, answer as answered, written, told}
+use lib.ListN.{take}
+use Rattle.theory.specs.Same.{eqs, eqs-refl}
 use Rattle.importer.specs.declared.Imported.{Imported}
+use Rattle.importer.specs.Outcomes.{Outcome as Import}
+use Rattle.demands.specs.History.{Handed, Imports, empty}
 use Rattle.witnesses.specs.Files as files
+use Rattle.witnesses.specs.Computed.{with, answerTo, after, bufferAfter, Single, computed}
 
--- free slots, and a buffer whose bytes are none of an HGC's
-abbrev slots : ℕ → List ℕ
-slots n = replicate n 0
+-- what a build makes of an import: its answer, and both lent blocks after it
+pub record Made : Type 0 where
+  pub answer : Imported
+  pub register : List ℕ
+  pub hgc : List ℕ
 
-abbrev buffer : List ℕ
-buffer = replicate 304 238
+-- a build of the import
+abbrev pub Build : Type 0
+Build = Handed → List ℕ → Made
 
--- the register of two slots after the first file
-abbrev after : List ℕ
-after = registerAfter 1 files.reception (slots 256) files.row files.good buffer
+-- it meets the contract, whatever is handed over
+abbrev pub Meets : Build → Type 0
+Meets build = (f : Handed) (register : List ℕ) → Imports f register (build f register .answer) (build f register .register) (build f register .hgc)
 
-pub idle :
-    -- a good line on one free slot is taken
-    (answered 1 files.reception (slots 128) files.row files.good buffer ≡ record { number = 0; taken = 1; rejected = 0; length = 174 })
-    -- and that slot then holds the record
-    × ((registerAfter 1 files.reception (slots 128) files.row files.good buffer ≡ files.line)
-    -- the definition's whole case, to the byte
-    × ((hgcAfter 1 files.reception (slots 128) files.row files.empty (replicate 174 238) ≡ files.whole)
-    -- no line, and one bad line, give different bytes
-    × ((eqs (hgcAfter 1 files.reception (slots 128) files.row files.empty buffer) (hgcAfter 1 files.reception (slots 128) files.row files.bad buffer) ≡ false)
-    -- two imports, one after the other: both records are there
-    × ((registerAfter 1 files.reception after files.row files.next buffer ≡ files.line ++ files.other)
-    -- an account that has ended, sent twice: the slot holds its end
-    × ((registerAfter 1 files.reception (slots 128) files.row files.twice buffer ≡ files.stored)
-    -- and the HGC has the Valid to that was sent
-    × (drop 110 (hgcAfter 1 files.reception (slots 128) files.row files.twice buffer) ≡ files.answered ++ files.footer))))))
-unfolding takenNext earlier bump distinct all run leading choose first flat onto free pad frontOn front chop good bad pick eqs mem scan tally each some field listed filledTo filled numberAfter number decimal pan doubled counted luhnSum luhn allowed plate nationality separated separator row rows sentBy beginning fitting known begun fitted daysIn realTime realDate tariffHolds classHolds emissionHolds productHolds engineHolds validToHolds separatorHolds fieldsHold weightHolds L10 endOf recordOf L1 L2 L3 L4 L5 L6 L7 stateless L8 L9 lineRules recordHolds starred slotsOf marked usedForm freeForm records usedPart inOrder holdsPan placeOf ofActor holdsForeign heldByAnother countOf linesIn lengthHolds body linesOf footer footerForm footerHolds framed framesHold sequence previousHolds headerHolds versionHolds incrementalOnly receiverHolds countHolds zeros outcome names counts head answer said answers foot confirmation ownRules verdictRules verdict verdictsOf fileVerdicts taken rejected storedOn stored storedAll others replacedAll isFull holdings usedAfter modeHolds notFull addressed formStops formStop judged following confirmed roomStops stops numberOf unlessStopped refusal success registerAfter hgcAfter written told answered
-idle = (refl, (refl, (refl, (refl, (refl, (refl, refl))))))
+-- two texts that differ are not the same
+differ : (a b : List ℕ) → eqs a b ≡ false → a ≡ b → ⊥
+differ a b d e = true≢false (sym (eqs-refl b) ∙ (rw e at d))
+
+module _ (build : Build) (meets : Meets build) where
+  facts : Single
+  facts = computed .0
+
+  -- what it makes of a file is what the contract says
+  answer-is : (f : Handed) (register : List ℕ) → build f register .answer ≡ answerTo register f
+  unfolding Import
+  answer-is f register = meets f register .0
+
+  register-is : (f : Handed) (register : List ℕ) → build f register .register ≡ after register f
+  unfolding Import
+  register-is f register = meets f register .1 .0
+
+  hgc-is : (f : Handed) (register : List ℕ) → build f register .hgc ≡ bufferAfter register f
+  unfolding Import
+  hgc-is f register = meets f register .1 .1
+
+  number-0 : (h : List ℕ) (r : Imported) → answerTo (empty 1) (with 1 h) ≡ r → r .number ≡ 0 → build (with 1 h) (empty 1) .answer .number ≡ 0
+  number-0 h r e z = ap (λ (a : Imported). a .number) (answer-is (with 1 h) (empty 1) ∙ e) ∙ z
+
+  -- it does not always stop
+  pub not-always-stopping : ((f : Handed) (register : List ℕ) → build f register .answer .number ≡ 0 → ⊥) → ⊥
+  not-always-stopping stops = stops (with 1 files.good) (empty 1) (number-0 files.good _ (facts .good-answer) refl)
+
+  -- it does not answer the same HGC to all files
+  pub not-one-hgc : (hgc : List ℕ) → ((f : Handed) (register : List ℕ) → build f register .answer .number ≡ 0 → take (build f register .answer .length) (build f register .hgc) ≡ hgc) → ⊥
+  not-one-hgc hgc same =
+      let told : (h : List ℕ) (r : Imported) → answerTo (empty 1) (with 1 h) ≡ r → r .number ≡ 0 → take (r .length) (bufferAfter (empty 1) (with 1 h)) ≡ hgc =
+      λ h r e z. rw (← hgc-is (with 1 h) (empty 1), ← e, ← answer-is (with 1 h) (empty 1)) (same (with 1 h) (empty 1) (number-0 h r e z)) in
+      differ files.whole files.badHgc (facts .different)
+      (sym (facts .empty-hgc) ∙ told files.empty _ (facts .empty-answer) refl ∙ sym (told files.bad _ (facts .bad-answer) refl) ∙ facts .bad-hgc)
+
+  -- it does not leave the register unwritten
+  pub not-unwritten : ((f : Handed) (register : List ℕ) → build f register .register ≡ register) → ⊥
+  not-unwritten stays =
+      differ (files.line ++ files.free) (files.line ++ files.other) (facts .both-different)
+      (sym (stays (with 1 files.next) (files.line ++ files.free)) ∙ register-is (with 1 files.next) (files.line ++ files.free) ∙ facts .both-register)
+
+  -- it does not import the first file alone, and leave the register as it is from then on
+  pub not-first-alone : ((n : ℕ) (f f′ : Handed) → build f′ (build f (empty n) .register) .register ≡ build f (empty n) .register) → ⊥
+  not-first-alone first =
+      let once : build (with 1 files.good) (empty 2) .register ≡ files.line ++ files.free = register-is (with 1 files.good) (empty 2) ∙ facts .first-register in
+      let again : build (with 1 files.next) (files.line ++ files.free) .register ≡ files.line ++ files.free =
+      rw (← once) (first 2 (with 1 files.good) (with 1 files.next)) in
+      differ (files.line ++ files.free) (files.line ++ files.other) (facts .both-different)
+      (sym again ∙ register-is (with 1 files.next) (files.line ++ files.free) ∙ facts .both-register)

@@ -1,3 +1,4 @@
 pub mod Files
+pub mod Computed
 pub mod Idle
 pub mod Sides

@@ -1,0 +1,202 @@
+-- What the definitions say of small files, computed: single files, two in a row, and six of two providers with the copy of one,
+-- updated late. Assumes nothing.
+use mathlib.Core.Path.{_≡_, refl}
+use mathlib.Core.Bool.{false}
+use mathlib.Core.List.{List, [], _∷_, _++_}
+use lib.ListN.{take, drop, replicate}
+use Rattle.theory.specs.Text.{bytes}
+use Prim.Native.Nat.{ℕ}
+use Rattle.theory.specs.Count.{bump, count}
+use Rattle.theory.specs.Distinct.{distinct}
+use Rattle.theory.specs.Every.{all, run, leading}
+use Rattle.theory.specs.First.{choose, first}
+use Rattle.theory.specs.Join.{flat}
+use Rattle.theory.specs.Keep.{onto}
+use Rattle.theory.specs.Pad.{free, pad, frontOn, front}
+use Rattle.theory.specs.Parts.{chop}
+use Rattle.theory.specs.Pick.{good, bad, pick}
+use Rattle.theory.specs.Same.{eqs, mem}
+use Rattle.theory.specs.Scan.{takenNext, scan}
+use Rattle.theory.specs.Tally.{tally}
+use Rattle.theory.specs.Walk.{each, some}
+use Rattle.texts.specs.Field.{field, listed}
+use Rattle.characters.specs.Characters.{filledTo, filled}
+use Rattle.numbers.specs.Number.{numberAfter, number, decimal}
+use Rattle.pans.specs.Pan.{pan, doubled, counted, luhnSum, luhn}
+use Rattle.plates.specs.Plate.{allowed, plate, nationality, separated, separator}
+use Rattle.issuers.specs.Rows.{row, rows, sentBy, beginning, fitting, known, begun, fitted}
+use Rattle.times.specs.Time.{daysIn, realTime, realDate}
+use Rattle.vehicles.specs.Vehicle.{tariffHolds, classHolds, emissionHolds, productHolds, engineHolds, validToHolds, separatorHolds, fieldsHold, weightHolds, L10}
+use Rattle.times.specs.Order.{earlier}
+use Rattle.lines.specs.End.{endOf, recordOf}
+use Rattle.lines.specs.Rules.{L1, L2, L3, L4, L5, L6, L7, stateless, L8, L9, lineRules, recordHolds}
+use Rattle.lines.specs.Starred.{starred}
+use Rattle.register.specs.Register.{slotsOf, marked, usedForm, freeForm, records, usedPart, inOrder}
+use Rattle.register.specs.Search.{holdsPan, placeOf, ofActor, holdsForeign, heldByAnother, countOf}
+use Rattle.hgv.specs.Layout.{linesIn, lengthHolds, body, linesOf, footer}
+use Rattle.frames.specs.Frames.{footerForm, footerHolds, framed, framesHold}
+use Rattle.sequences.specs.Sequence.{sequence}
+use Rattle.header.specs.Header.{previousHolds, headerHolds}
+use Rattle.claims.specs.Claims.{versionHolds, incrementalOnly, receiverHolds, countHolds}
+use Rattle.hgc.specs.Confirmation.{zeros, outcome, names, counts, head, answer, said, answers, foot, confirmation}
+use Rattle.verdicts.specs.Verdict.{ownRules, verdictRules, verdict, verdictsOf, fileVerdicts, taken, rejected}
+use Rattle.holdings.specs.Holdings.{storedOn, stored, storedAll, others, replacedAll, isFull, holdings}
+use Rattle.holdings.specs.Room.{usedAfter}
+use Rattle.stops.specs.Stops.{modeHolds, notFull, addressed, formStops, formStop}
+use Rattle.theory.specs.Stopped.{unlessStopped}
+use Rattle.importer.specs.Import.{judged, following, confirmed, roomStops, stops, numberOf, refusal, success, registerAfter, hgcAfter, answer as answered, written, told}
+use Rattle.importer.specs.declared.Imported.{Imported}
+use Rattle.theory.specs.Keep.{sift}
+use Rattle.header.specs.Header.{sender}
+use Rattle.pairing.specs.Pairing.{isTaken, marksFrom, marks, left}
+use Rattle.receipts.specs.Receipt.{answersIn, behindHead, answersOf, lengthForm, headForm, answerForm, formHolds, namesHold, outcomeHolds, reasonHolds, textsOf, copiesOf, marksOf, takenBy, sameTexts, copiesHold, countsHold, lineHolds, takenHold, saysHold, linesHold, receiptHolds}
+use Rattle.provider.specs.declared.Counted.{Counted}
+use Rattle.provider.specs.Answer.{refusal as turnedDown, counted as told-counts}
+use Rattle.provider.specs.Update.{ownHolds, copyStops, following as copied, roomStops as copyRoom, updateNumber, updateAnswer, updated, copyAfter}
+use Rattle.demands.specs.History.{Handed, Sent, empty}
+use Rattle.witnesses.specs.Files as files
+
+-- what is handed over with a file
+abbrev pub with : ℕ → List ℕ → Handed
+with mode h = record { mode = mode; reception = files.reception; rows = files.rows; hgv = h; hgc = files.buffer }
+
+-- the answer to it beside this register, the register after it, and the buffer
+abbrev pub answerTo : List ℕ → Handed → Imported
+answerTo register f = answered (f .mode) (f .reception) register (f .rows) (f .hgv) (f .hgc)
+
+abbrev pub after : List ℕ → Handed → List ℕ
+after register f = registerAfter (f .mode) (f .reception) register (f .rows) (f .hgv) (f .hgc)
+
+abbrev pub bufferAfter : List ℕ → Handed → List ℕ
+bufferAfter register f = hgcAfter (f .mode) (f .reception) register (f .rows) (f .hgv) (f .hgc)
+
+abbrev pub counts4 : ℕ → ℕ → ℕ → ℕ → Imported
+counts4 number taken rejected size = record { number = number; taken = taken; rejected = rejected; length = size }
+
+-- ---- single files, and two in a row
+
+pub record Single : Type 0 where
+  -- a good line on one free slot is taken, and that slot then holds the record
+  pub good-answer : answerTo (empty 1) (with 1 files.good) ≡ counts4 0 1 0 174
+  pub good-register : after (empty 1) (with 1 files.good) ≡ files.line
+  -- the definition's whole case, to the byte
+  pub empty-answer : answerTo (empty 1) (with 1 files.empty) ≡ counts4 0 0 0 174
+  pub empty-hgc : take 174 (bufferAfter (empty 1) (with 1 files.empty)) ≡ files.whole
+  -- a bad line, rejected
+  pub bad-answer : answerTo (empty 1) (with 1 files.bad) ≡ counts4 0 0 1 304
+  pub bad-hgc : take 304 (bufferAfter (empty 1) (with 1 files.bad)) ≡ files.badHgc
+  pub different : eqs files.whole files.badHgc ≡ false
+  -- two imports, one after the other: both records are there
+  pub first-register : after (empty 2) (with 1 files.good) ≡ files.line ++ files.free
+  pub both-register : after (files.line ++ files.free) (with 1 files.next) ≡ files.line ++ files.other
+  pub both-different : eqs (files.line ++ files.free) (files.line ++ files.other) ≡ false
+  -- an account that has ended, sent twice: the slot holds its end, and the HGC has the Valid to that was sent
+  pub ended-register : after (empty 1) (with 1 files.twice) ≡ files.stored
+  pub ended-hgc : drop 110 (bufferAfter (empty 1) (with 1 files.twice)) ≡ files.answered ++ files.footer
+
+-- ---- six files of two providers, on three slots
+
+-- a faulty line and a right one with its PAN; a line of the other provider; a count that is wrong; the full list, in another order; an
+-- account replaced; and one account too many
+abbrev pub file₁ : Handed
+file₁ = with 1 (files.file files.one files.double (files.wrong ++ files.line))
+
+abbrev pub file₂ : Handed
+file₂ = with 1 (files.file files.another files.single files.foreign)
+
+abbrev pub file₃ : Handed
+file₃ = with 1 (files.file files.one files.double files.other)
+
+abbrev pub file₄ : Handed
+file₄ = with 2 (files.file files.one files.double (files.other ++ files.line))
+
+abbrev pub file₅ : Handed
+file₅ = with 1 (files.file files.one files.single files.replaced)
+
+abbrev pub file₆ : Handed
+file₆ = with 1 (files.file files.one files.single files.third)
+
+-- the registers between them
+abbrev pub register₁ : List ℕ
+register₁ = files.line ++ files.free ++ files.free
+
+abbrev pub register₂ : List ℕ
+register₂ = files.line ++ files.foreign ++ files.free
+
+abbrev pub register₄ : List ℕ
+register₄ = files.foreign ++ files.other ++ files.line
+
+abbrev pub register₅ : List ℕ
+register₅ = files.foreign ++ files.other ++ files.replaced
+
+-- the HGCs of those accepted
+abbrev pub hgc₁ : List ℕ
+hgc₁ = files.confirmed files.one files.single files.single (bytes "01") files.wrongAnswer
+
+abbrev pub hgc₂ : List ℕ
+hgc₂ = files.confirmed files.another files.single files.none (bytes "00") []
+
+abbrev pub hgc₄ : List ℕ
+hgc₄ = files.confirmed files.one files.double files.none (bytes "00") []
+
+abbrev pub hgc₅ : List ℕ
+hgc₅ = files.confirmed files.one files.single files.none (bytes "00") []
+
+pub record Six : Type 0 where
+  pub answer₁ : answerTo (empty 3) file₁ ≡ counts4 0 1 1 304
+  pub after₁ : after (empty 3) file₁ ≡ register₁
+  pub hgc-is₁ : take 304 (bufferAfter (empty 3) file₁) ≡ hgc₁
+  pub answer₂ : answerTo register₁ file₂ ≡ counts4 0 1 0 174
+  pub after₂ : after register₁ file₂ ≡ register₂
+  pub hgc-is₂ : take 174 (bufferAfter register₁ file₂) ≡ hgc₂
+  -- 30
+  pub answer₃ : answerTo register₂ file₃ ≡ counts4 30 0 0 0
+  pub after₃ : after register₂ file₃ ≡ register₂
+  pub answer₄ : answerTo register₂ file₄ ≡ counts4 0 2 0 174
+  pub after₄ : after register₂ file₄ ≡ register₄
+  pub hgc-is₄ : take 174 (bufferAfter register₂ file₄) ≡ hgc₄
+  pub answer₅ : answerTo register₄ file₅ ≡ counts4 0 1 0 174
+  pub after₅ : after register₄ file₅ ≡ register₅
+  pub hgc-is₅ : take 174 (bufferAfter register₄ file₅) ≡ hgc₅
+  -- 33
+  pub answer₆ : answerTo register₅ file₆ ≡ counts4 33 0 0 0
+  pub after₆ : after register₅ file₆ ≡ register₅
+
+-- ---- the copies of the two, updated afterwards
+
+-- what a provider was sent with a file
+abbrev pub sent : Handed → List ℕ → Sent
+sent f hgc = record { mode = f .mode; hgv = f .hgv; hgc = hgc }
+
+-- the copy after these were applied, one after the other
+unfoldable pub copyBy : List ℕ → List Sent → List ℕ
+copyBy copy [] = copy
+copyBy copy (s ∷ ss) = copyBy (copyAfter (s .mode) copy (s .hgv) (s .hgc)) ss
+
+-- and what the updates answered, the last in front
+unfoldable pub answersBy : List ℕ → List Counted → List Sent → List Counted
+answersBy copy us [] = us
+answersBy copy us (s ∷ ss) = answersBy (copyAfter (s .mode) copy (s .hgv) (s .hgc)) (updateAnswer (s .mode) copy (s .hgv) (s .hgc) ∷ us) ss
+
+abbrev pub counts3 : ℕ → ℕ → ℕ → Counted
+counts3 number taken rejected = record { number = number; taken = taken; rejected = rejected }
+
+-- where a provider starts, and what the first of them applies
+abbrev pub started : List ℕ
+started = empty 3
+
+abbrev pub late : List Sent
+late = sent file₁ hgc₁ ∷ sent file₄ hgc₄ ∷ sent file₅ hgc₅ ∷ []
+
+pub record Late : Type 0 where
+  pub copy-is : copyBy started late ≡ files.other ++ files.replaced ++ files.free
+  pub answers-are : answersBy started [] late ≡ counts3 0 1 0 ∷ counts3 0 2 0 ∷ counts3 0 1 1 ∷ []
+  -- and the other's
+  pub their-copy : copyBy started (sent file₂ hgc₂ ∷ []) ≡ files.foreign ++ files.free ++ files.free
+  pub their-answers : answersBy started [] (sent file₂ hgc₂ ∷ []) ≡ counts3 0 1 0 ∷ []
+
+-- ---- computed, by every definition that the contracts reach
+
+pub computed : Single × (Six × Late)
+unfolding takenNext earlier bump distinct all run leading choose first flat onto free pad frontOn front chop good bad pick eqs mem scan tally each some field listed filledTo filled numberAfter number decimal pan doubled counted luhnSum luhn allowed plate nationality separated separator row rows sentBy beginning fitting known begun fitted daysIn realTime realDate tariffHolds classHolds emissionHolds productHolds engineHolds validToHolds separatorHolds fieldsHold weightHolds L10 endOf recordOf L1 L2 L3 L4 L5 L6 L7 stateless L8 L9 lineRules recordHolds starred slotsOf marked usedForm freeForm records usedPart inOrder holdsPan placeOf ofActor holdsForeign heldByAnother countOf linesIn lengthHolds body linesOf footer footerForm footerHolds framed framesHold sequence previousHolds headerHolds versionHolds incrementalOnly receiverHolds countHolds zeros outcome names counts head answer said answers foot confirmation ownRules verdictRules verdict verdictsOf fileVerdicts taken rejected storedOn stored storedAll others replacedAll isFull holdings usedAfter modeHolds notFull addressed formStops formStop judged following confirmed roomStops stops numberOf unlessStopped refusal success registerAfter hgcAfter written told answered empty sift isTaken marksFrom marks left answersIn behindHead answersOf lengthForm headForm answerForm formHolds namesHold outcomeHolds reasonHolds textsOf copiesOf marksOf takenBy sameTexts copiesHold countsHold lineHolds takenHold saysHold linesHold receiptHolds turnedDown told-counts ownHolds copyStops copied copyRoom updateNumber updateAnswer updated copyAfter count copyBy answersBy
+computed = (record { good-answer = refl; good-register = refl; empty-answer = refl; empty-hgc = refl; bad-answer = refl; bad-hgc = refl; different = refl; first-register = refl; both-register = refl; both-different = refl; ended-register = refl; ended-hgc = refl }, (record { answer₁ = refl; after₁ = refl; hgc-is₁ = refl; answer₂ = refl; after₂ = refl; hgc-is₂ = refl; answer₃ = refl; after₃ = refl; answer₄ = refl; after₄ = refl; hgc-is₄ = refl; answer₅ = refl; after₅ = refl; hgc-is₅ = refl; answer₆ = refl; after₆ = refl }, record { copy-is = refl; answers-are = refl; their-copy = refl; their-answers = refl }))
