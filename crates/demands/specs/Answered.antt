@@ -3,10 +3,9 @@
 use mathlib.Core.Path.{_≡_, refl, sym, ap, _∙_}
 use mathlib.Core.Bool.{true}
 use mathlib.Core.List.{List, _++_}
-use Prim.Native.Nat.{ℕ, zero, suc}
-use native.Mathlib.Omega.{arith}
+use Prim.Native.Nat.{ℕ}
 use Rattle.theory.specs.First.{first, numbered}
-use Rattle.theory.specs.Stopped.{unlessStopped, at-stop, at-success}
+use Rattle.theory.specs.Stopped.{number-kept}
 use Rattle.provider.specs.declared.Counted.{Counted}
 use Rattle.provider.specs.Answer.{refusal, counted}
 use Rattle.provider.specs.ReadBack.{fileStops, blockStops, readNumber, readAnswer, verdictsAfter}
@@ -14,18 +13,12 @@ use Rattle.provider.specs.Update.{copyStops, roomStops, updateNumber, updateAns
 use Rattle.provider.specs.Outcomes.{ReadOutcome as ReadBack, UpdateOutcome as Update}
 use Rattle.provider.specs.Numbers.{read-refused, verdicts-stay, update-refused, copy-stays}
 
--- the number of what is answered, where success has 0
-number-kept : (n : ℕ) (h g : List ℕ) → unlessStopped n (counted h g) (refusal n) .number ≡ n
-unfolding counted refusal
-number-kept zero h g = ap (λ (r : Counted). r .number) (at-success 0 (counted h g) (refusal 0) refl)
-number-kept (suc n) h g = ap (λ (r : Counted). r .number) (at-stop (suc n) (counted h g) (refusal (suc n)) (λ z. omega arith))
-
 -- ---- reading back
 
 module _ (h g block : List ℕ) (r : Counted) (v : List ℕ) (o : ReadBack h g block r v) where
   read-is : r .number ≡ readNumber h g block
-  unfolding ReadBack readAnswer
-  read-is = ap (λ (a : Counted). a .number) (o .0) ∙ number-kept (readNumber h g block) h g
+  unfolding ReadBack readAnswer counted refusal
+  read-is = ap (λ (a : Counted). a .number) (o .0) ∙ number-kept (λ (a : Counted). a .number) (readNumber h g block) (counted h g) (refusal (readNumber h g block)) refl refl
 
   pub read-first : r .number ≡ first (fileStops h ++ blockStops h g block)
   unfolding readNumber
@@ -47,8 +40,8 @@ module _ (h g block : List ℕ) (r : Counted) (v : List ℕ) (o : ReadBack h g b
 
 module _ (mode : ℕ) (copy h g : List ℕ) (r : Counted) (c : List ℕ) (o : Update mode copy h g r c) where
   update-is : r .number ≡ updateNumber mode copy h g
-  unfolding Update updateAnswer
-  update-is = ap (λ (a : Counted). a .number) (o .0) ∙ number-kept (updateNumber mode copy h g) h g
+  unfolding Update updateAnswer counted refusal
+  update-is = ap (λ (a : Counted). a .number) (o .0) ∙ number-kept (λ (a : Counted). a .number) (updateNumber mode copy h g) (counted h g) (refusal (updateNumber mode copy h g)) refl refl
 
   pub update-first : r .number ≡ first (copyStops mode copy h ++ roomStops mode copy h g)
   unfolding updateNumber

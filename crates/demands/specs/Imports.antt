@@ -1,28 +1,21 @@
 -- What any outcome of an import has: at a stop zeros, and every lent byte as it was; at 0 what the definitions say. Assumes nothing.
 use mathlib.Core.Path.{_≡_, refl, sym, ap, _∙_}
 use mathlib.Core.List.{List}
-use Prim.Native.Nat.{ℕ, zero, suc}
-use native.Mathlib.Omega.{arith}
-use Rattle.theory.specs.Stopped.{unlessStopped, at-stop, at-success}
+use Prim.Native.Nat.{ℕ}
+use Rattle.theory.specs.Stopped.{number-kept}
 use Rattle.importer.specs.declared.Imported.{Imported}
 use Rattle.importer.specs.Import.{numberOf, refusal, success, written, told, answer, registerAfter, hgcAfter}
 use Rattle.importer.specs.Outcomes.{Outcome as Import}
 use Rattle.importer.specs.Numbers.{stop-answer, stop-register, stop-hgc, done-answer, done-register, done-hgc}
 use Rattle.demands.specs.History.{Handed, Imports}
 
--- the number answered is that of the first stop that holds
-number-answered : (mode : ℕ) (reception register rows h hgc : List ℕ) → answer mode reception register rows h hgc .number ≡ numberOf mode reception register rows h hgc
-unfolding answer success refusal
-number-answered mode reception register rows h hgc = go (numberOf mode reception register rows h hgc)
-  where
-    go : (n : ℕ) → unlessStopped n (success reception register rows h) (refusal n) .number ≡ n
-    go zero = ap (λ (r : Imported). r .number) (at-success 0 (success reception register rows h) (refusal 0) refl)
-    go (suc n) = ap (λ (r : Imported). r .number) (at-stop (suc n) (success reception register rows h) (refusal (suc n)) (λ z. omega arith))
-
 module _ (f : Handed) (register : List ℕ) (r : Imported) (b g : List ℕ) (o : Imports f register r b g) where
+  -- the number answered is that of the first stop that holds
   pub number-is : r .number ≡ numberOf (f .mode) (f .reception) register (f .rows) (f .hgv) (f .hgc)
-  unfolding Import
-  number-is = ap (λ (a : Imported). a .number) (o .0) ∙ number-answered (f .mode) (f .reception) register (f .rows) (f .hgv) (f .hgc)
+  unfolding Import answer success refusal
+  number-is =
+      ap (λ (a : Imported). a .number) (o .0)
+      ∙ number-kept (λ (a : Imported). a .number) (numberOf (f .mode) (f .reception) register (f .rows) (f .hgv) (f .hgc)) _ _ refl refl
 
   -- ---- a stop
 

@@ -1,25 +1,16 @@
 -- The verdicts of lines are one scan, and no others are; and a line is taken exactly when it breaks no rule. Assumes nothing.
-use mathlib.Core.Path.{_≡_, refl, sym, _∙_}
-use mathlib.Core.Bool.{Bool, true, false}
+use mathlib.Core.Path.{_≡_, sym, _∙_}
 use mathlib.Core.List.{List, []}
-use Prim.Native.Nat.{ℕ, suc, _<_}
-use native.Mathlib.Omega.{arith}
-use lib.ListN.{length, getD}
-use Rattle.theory.specs.First.{first, choose, otherwise, otherwise-none}
+use Prim.Native.Nat.{ℕ}
+use Rattle.theory.specs.First.{first, choose, unchosen, otherwise, otherwise-none}
 use Rattle.theory.specs.Walk.{some}
-use Rattle.theory.specs.Scan.{scan, length-scan, scan-at, scan-only}
+use Rattle.theory.specs.Scan.{length-scan, scan-at, scan-only}
 use Rattle.columns.specs.Columns.{panOf}
-use Rattle.lines.specs.Rules.{lineFault}
 use Rattle.lines.specs.Faultless.{faultless-none}
-use Rattle.register.specs.Search.{holdsPan, heldByAnother}
+use Rattle.register.specs.Search.{holdsPan}
 use Rattle.verdicts.specs.Verdict.{ownRules, verdictRules, verdict, verdictsOf}
 use Rattle.verdicts.specs.Laws.{own-is, verdict-is, taken-faultless, taken-free}
-use Rattle.demands.specs.Verdicts.{takenBefore, Verdicts, Unbroken}
-
-unchosen : (b : Bool) (n : ℕ) → choose b (suc n) 0 ≡ 0 → b ≡ false
-unfolding choose
-unchosen true n h = absurd (omega arith)
-unchosen false n h = refl
+use Rattle.demands.specs.Verdicts.{Verdicts, Unbroken}
 
 module _ (rows from : List ℕ) (R : List (List ℕ)) where
   -- ---- what the verdicts are

@@ -31,6 +31,12 @@ first (r ∷ rs) = choose (r .fits) (r .number) (first rs)
 pub chosen : (t h : Bool) (n v w w′ : ℕ) → v ≡ choose t n w → t ≡ h → w ≡ w′ → v ≡ choose h n w′
 chosen t h n v w w′ e f g = e ∙ rw (f, g)
 
+-- where 0 was chosen and not a number, the test does not hold
+pub unchosen : (b : Bool) (n : ℕ) → choose b (suc n) 0 ≡ 0 → b ≡ false
+unfolding choose
+unchosen true n h = absurd (omega arith)
+unchosen false n h = refl
+
 pub first-hit : (r : Rule) (rs : List Rule) → r .fits ≡ true → first (r ∷ rs) ≡ r .number
 unfolding first choose
 first-hit r rs h = rw h
@@ -102,6 +108,21 @@ first-fits (r ∷ rs) k h n = go (r .fits) refl h (λ e. first-fits rs k e n)
 -- and only then
 pub fits-first : (rs : List Rule) (k : ℕ) → Fits k rs → first rs ≡ k
 fits-first rs k f = rw (f .split) (first-behind (f .passed) (f .rule) (f .behind) (f .fits) ∙ f .named)
+
+-- what the number n says that is answered by the rules rs: where it is not 0, a rule with this number fits and none in front of it;
+-- it is 0 exactly when none fits
+pub record Decided (rs : List Rule) (n : ℕ) : Type 0 where
+  pub by : (n ≡ 0 → ⊥) → Fits n rs
+  pub clear : n ≡ 0 → None rs
+  pub by-none : None rs → n ≡ 0
+
+pub decided : (rs : List Rule) → numbered rs ≡ true → (n : ℕ) → n ≡ first rs → Decided rs n
+decided rs m n e =
+    record {
+      by = first-fits rs n (sym e);
+      clear = λ z. first-clear rs m (sym e ∙ z);
+      by-none = λ k. e ∙ first-none k;
+    }
 
 -- one rule less, of those that do not fit
 pub none-head : (r : Rule) (rs : List Rule) → None (r ∷ rs) → r .fits ≡ false

@@ -1,9 +1,10 @@
 -- A call that may be stopped: what is done where no stop is given, and stops in two lists of which the first comes first.
 -- Assumes nothing.
-use mathlib.Core.Path.{_≡_, sym, _∙_}
+use mathlib.Core.Path.{_≡_, refl, sym, ap, _∙_}
 use mathlib.Core.Bool.{Bool, true, cond}
 use mathlib.Core.List.{List, _++_}
-use Prim.Native.Nat.{ℕ}
+use Prim.Native.Nat.{ℕ, zero, suc}
+use native.Mathlib.Omega.{arith}
 use lib.Dec.{eqb}
 use borrow.Author.Tests.{eq-eqb, ne-eqb}
 use Rattle.theory.specs.First.{Rule, first, numbered, otherwise, otherwise-stands, otherwise-next, otherwise-none, first-append}
@@ -20,6 +21,11 @@ module _ {A : Type 0} (number : ℕ) (done stays : A) where
   pub at-success : number ≡ 0 → unlessStopped number done stays ≡ done
   unfolding unlessStopped
   at-success e = rw (eq-eqb number 0 e)
+
+-- the number of an answer, where success has 0 and a refusal its own
+pub number-kept : {A : Type 0} (numberOf : A → ℕ) (n : ℕ) (done stays : A) → numberOf done ≡ 0 → numberOf stays ≡ n → numberOf (unlessStopped n done stays) ≡ n
+number-kept numberOf zero done stays e f = ap numberOf (at-success 0 done stays refl) ∙ e
+number-kept numberOf (suc n) done stays e f = ap numberOf (at-stop (suc n) done stays (λ z. omega arith)) ∙ f
 
 -- the stops rs behind the stops fs
 module _ (fs rs : List Rule) (n : numbered fs ≡ true) where

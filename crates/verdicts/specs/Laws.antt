@@ -5,7 +5,7 @@ use mathlib.Core.List.{List, [], _∷_, _++_, map}
 use Prim.Native.Nat.{ℕ, zero, suc, _+_, _≤_}
 use native.Mathlib.Omega.{arith}
 use lib.ListN.{length}
-use Rattle.theory.specs.First.{Rule, _if_, first, first-append, first-clear, first-most, numbered, numberedTo, otherwise, otherwise-none, choose}
+use Rattle.theory.specs.First.{Rule, _if_, first, first-append, first-clear, first-most, numbered, numberedTo, otherwise, otherwise-none, choose, unchosen}
 use Rattle.theory.specs.Same.{eqs, mem}
 use Rattle.theory.specs.Each.{Each}
 use Rattle.theory.specs.Walk.{some}
@@ -21,11 +21,6 @@ use Rattle.hgv.specs.Layout.{linesIn, linesOf}
 use Rattle.hgv.specs.Laws.{length-lines}
 use Rattle.header.specs.Header.{sender}
 use Rattle.verdicts.specs.Verdict.{ownRules, verdictRules, verdict, verdictsOf, fileVerdicts, taken}
-
-unchosen : (b : Bool) (n : ℕ) → choose b (suc n) 0 ≡ 0 → b ≡ false
-unfolding choose
-unchosen true n h = absurd (omega arith)
-unchosen false n h = refl
 
 module _ (rows from : List ℕ) (R : List (List ℕ)) where
   module _ (l : List ℕ) where
