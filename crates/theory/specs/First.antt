@@ -1,6 +1,6 @@
 -- Rules with numbers, in an order: the number of the first whose test holds, and 0 where none does.
 -- The stops and the rules of a line are lists of this kind. Assumes nothing.
-use mathlib.Core.Path.{_≡_, refl, _∙_}
+use mathlib.Core.Path.{_≡_, refl, sym, ap, _∙_}
 use mathlib.Core.Bool.{Bool, true, false, _&&_, false≢true}
 use mathlib.Core.List.{List, [], _∷_, _++_}
 use Prim.Native.Nat.{ℕ, zero, suc, _≤_, _<_}
@@ -69,6 +69,39 @@ first-clear (r ∷ rs) n h =
     go : (b : Bool) → r .fits ≡ b → choose b (r .number) (first rs) ≡ 0 → (first rs ≡ 0 → None rs) → 0 < r .number → None (r ∷ rs)
     go true e k ih p = absurd (omega arith)
     go false e k ih p = more e (ih k)
+
+-- where the number is k, which is not 0, a rule with this number fits, and none in front of it
+pub record Fits (k : ℕ) (rs : List Rule) : Type 0 where
+  pub front : List Rule
+  pub rule : Rule
+  pub behind : List Rule
+  pub split : rs ≡ front ++ rule ∷ behind
+  pub passed : None front
+  pub fits : rule .fits ≡ true
+  pub named : rule .number ≡ k
+
+pub first-fits : (rs : List Rule) (k : ℕ) → first rs ≡ k → (k ≡ 0 → ⊥) → Fits k rs
+unfolding first choose
+first-fits [] k h n = absurd (n (sym h))
+first-fits (r ∷ rs) k h n = go (r .fits) refl h (λ e. first-fits rs k e n)
+  where
+    go : (b : Bool) → r .fits ≡ b → choose b (r .number) (first rs) ≡ k → (first rs ≡ k → Fits k rs) → Fits k (r ∷ rs)
+    go true e j ih = record { front = []; rule = r; behind = rs; split = refl; passed = none; fits = e; named = j }
+    go false e j ih =
+        let f : Fits k rs = ih j in
+        record {
+          front = r ∷ f .front;
+          rule = f .rule;
+          behind = f .behind;
+          split = ap (λ (qs : List Rule). r ∷ qs) (f .split);
+          passed = more e (f .passed);
+          fits = f .fits;
+          named = f .named;
+        }
+
+-- and only then
+pub fits-first : (rs : List Rule) (k : ℕ) → Fits k rs → first rs ≡ k
+fits-first rs k f = rw (f .split) (first-behind (f .passed) (f .rule) (f .behind) (f .fits) ∙ f .named)
 
 -- one rule less, of those that do not fit
 pub none-head : (r : Rule) (rs : List Rule) → None (r ∷ rs) → r .fits ≡ false

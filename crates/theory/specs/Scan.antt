@@ -6,7 +6,7 @@ use mathlib.Core.List.{List, [], _∷_, _++_, map, append-assoc, append-nil, map
 use Prim.Native.Nat.{ℕ, zero, suc, _+_, _<_}
 use native.Mathlib.Numerals.{add-one}
 use native.Mathlib.Omega.{arith}
-use lib.ListN.{length, take, set}
+use lib.ListN.{length, take, getD, set}
 use lib.Seq.{take-all, take-suc-set}
 use Rattle.theory.specs.Same.{eqs, eqs-sym, mem}
 use Rattle.theory.specs.Each.{Each, none, more}
@@ -44,6 +44,45 @@ module _ (f : List (List ℕ) → List ℕ → ℕ) where
   scan-next taken (x ∷ ls) l =
       let t : List (List ℕ) = takenNext (f taken x) x taken in
       rw (← taken-next (f taken x) x taken (pick good (scan f t ls) ls)) (ap (λ (vs : List ℕ). f taken x ∷ vs) (scan-next t ls l))
+
+  -- the first k verdicts are those of the first k lines
+  pub scan-take : (k : ℕ) (taken ls : List (List ℕ)) → take k (scan f taken ls) ≡ scan f taken (take k ls)
+  unfolding scan
+  scan-take zero taken ls = refl
+  scan-take (suc k) taken [] = refl
+  scan-take (suc k) taken (l ∷ ls) = ap (λ (vs : List ℕ). f taken l ∷ vs) (scan-take k (takenNext (f taken l) l taken) ls)
+
+  -- the verdict at the place i is what f says of its line, beside the lines taken before it
+  abbrev Said : List (List ℕ) → List (List ℕ) → List ℕ → ℕ → Type 0
+  Said taken ls vs i = getD vs i 0 ≡ f (taken ++ pick good (take i vs) (take i ls)) (getD ls i [])
+
+  said : (taken ls : List (List ℕ)) (i : ℕ) → i < length ls → Said taken ls (scan f taken ls) i
+  unfolding scan pick
+  said taken [] i h = absurd (omega arith)
+  said taken (l ∷ ls) zero h = rw (append-nil taken)
+  said taken (l ∷ ls) (suc i) h =
+      let t : List (List ℕ) = takenNext (f taken l) l taken in
+      rw (← taken-next (f taken l) l taken (pick good (take i (scan f t ls)) (take i ls))) (said t ls i (omega arith))
+
+  only-said : (taken ls : List (List ℕ)) (vs : List ℕ) → length vs ≡ length ls → ((i : ℕ) → i < length ls → Said taken ls vs i) → vs ≡ scan f taken ls
+  unfolding scan pick
+  only-said taken [] [] e g = refl
+  only-said taken [] (v ∷ vs) e g = absurd (omega arith)
+  only-said taken (l ∷ ls) [] e g = absurd (omega arith)
+  only-said taken (l ∷ ls) (v ∷ vs) e g =
+      let h : v ≡ f taken l = rw (append-nil taken) at (g 0 (omega arith)) in
+      rw (← h)
+      (ap (λ (us : List ℕ). v ∷ us)
+      (only-said (takenNext v l taken) ls vs (omega arith) (λ i k. rw (taken-next v l taken (pick good (take i vs) (take i ls))) (g (suc i) (omega arith)))))
+
+  -- each verdict is what f says of its line, beside the lines taken before it
+  pub scan-at : (ls : List (List ℕ)) (i : ℕ) → i < length ls → getD (scan f [] ls) i 0 ≡ f (pick good (take i (scan f [] ls)) (take i ls)) (getD ls i [])
+  scan-at ls i h = said [] ls i h
+
+  -- and only these verdicts are
+  pub scan-only : (ls : List (List ℕ)) (vs : List ℕ) → length vs ≡ length ls
+      → ((i : ℕ) → i < length ls → getD vs i 0 ≡ f (pick good (take i vs) (take i ls)) (getD ls i [])) → vs ≡ scan f [] ls
+  scan-only ls vs e g = only-said [] ls vs e g
 
   -- what every verdict has, each of those of the lines has
   pub each-verdict : {q : ℕ → Type 0} → ((taken : List (List ℕ)) (l : List ℕ) → q (f taken l)) → (taken ls : List (List ℕ)) → Each q (scan f taken ls)
