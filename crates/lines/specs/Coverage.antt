@@ -262,6 +262,19 @@ module _ (l : List ℕ) where
       let here : run q (r .to + 1 - a) (field a (r .to) l) ≡ true = rw e (run-wider (r .admits) q g (r .to + 1 - r .from) (field (r .from) (r .to) l) h) in
       (omega arith, rw (w, field-split a b (r .to) l o n m) (run-append q (r .to + 1 - a) (b + 1 - (r .to + 1)) (field a (r .to) l) (field (r .to + 1) b l) here (rest .1)))
 
+  -- blanks are refused in 92-116: there zeros mean missing
+  pub missing-zeros : L10 l ≡ true → run digit 25 (field 92 116 l) ≡ true
+  unfolding cover
+  missing-zeros h =
+      let m : Parts l = l10-parts l h in
+      let digits : (x : ℕ) → digit x ≡ true → digit x ≡ true = λ x e. e in
+      rows-run digit (row 92 94 L10 digit ∷ row 95 96 L10 digit ∷ row 97 100 L10 digit ∷ row 101 114 L10 digit ∷ row 115 116 L10 digit ∷ []) 92 116 (omega arith) refl
+      (more (engine-held (m .engine-holds), digits)
+      (more (m .co2-digits, digits)
+      (more (m .weight-digits, digits)
+      (more (valid-held (m .valid-holds), digits)
+      (more (separator-held (m .separator-holds), digits) none))))) .1
+
 -- no row admits a control character
 unfoldable pub clear : List Row → Bool
 clear [] = true
