@@ -1,3 +1,3 @@
 pub mod Characters
-pub mod Plain
+pub mod Filled
 pub mod Outcomes

@@ -1,3 +1,3 @@
 pub mod Field
-pub mod Plain
+pub mod Listed
 pub mod Outcomes

@@ -2,5 +2,6 @@ pub mod Rules
 pub mod Faultless
 pub mod Coverage
 pub mod End
+pub mod Ends
 pub mod Starred
 pub mod Outcomes

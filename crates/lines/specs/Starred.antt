@@ -4,6 +4,7 @@ use mathlib.Core.Bool.{Bool, true, false, not, cond, _&&_}
 use mathlib.Core.List.{List, [], _∷_}
 use Prim.Native.Nat.{ℕ}
 use Prim.Native.String.{String}
+use lib.Dec.{eqb}
 use Rattle.theory.specs.Text.{bytes}
 use Rattle.theory.specs.Same.{eqs}
 use Rattle.theory.specs.Every.{all, run, leading}
@@ -15,10 +16,11 @@ use Rattle.pans.specs.Pan.{doubled, counted, luhnSum, luhn}
 use Rattle.plates.specs.Plate.{allowed, plateCharacters, separated, separator}
 use Rattle.lines.specs.End.{endOf}
 
--- a PAN passes Luhn or not; a time is real or not; a plate may have these separators or not; a Valid to, at a
--- reception, has this end
+-- a PAN passes Luhn or not; digits have this Luhn sum; a time is real or not; a plate may have these separators or not; a
+-- Valid to, at a reception, has this end
 pub data Case : Type 0 where
   luhnIs : String → Bool → Case
+  sumIs : String → ℕ → Case
   realIs : String → Bool → Case
   separatorIs : String → String → Bool → Case
   endIs : String → String → String → Case
@@ -29,6 +31,7 @@ same a b = cond a b (not b)
 -- the case is judged as the document says
 unfoldable pub right : Case → Bool
 right (luhnIs pan b) = same (luhn (bytes pan)) b
+right (sumIs digits n) = eqb (luhnSum (bytes digits)) n
 right (realIs t b) = same (realTime (bytes t)) b
 right (separatorIs plate f b) = same (separator (bytes f) (plateCharacters (bytes plate))) b
 right (endIs v reception end) = eqs (endOf (bytes reception) (bytes v)) (bytes end)
@@ -43,6 +46,7 @@ starred =
     ∷ luhnIs "9799001200000010   " true
     ∷ luhnIs "9799001200000028   " true
     ∷ luhnIs "9799001200000003   " false
+    ∷ sumIs "9799001200000003" 41
     ∷ realIs "20240229235959" true
     ∷ realIs "20000229000000" true
     ∷ realIs "20230229000000" false
@@ -61,8 +65,3 @@ starred =
 pub starred-right : every starred ≡ true
 unfolding every right same starred luhn luhnSum counted doubled realTime daysIn separator separated allowed leading run all field number numberAfter endOf earlier eqs
 starred-right = refl
-
--- (sum 41)
-pub sum-41 : luhnSum (bytes "9799001200000003") ≡ 41
-unfolding luhnSum counted doubled
-sum-41 = refl

@@ -7,32 +7,29 @@ use native.Mathlib.Omega.{arith}
 use lib.Dec.{leb}
 use lib.ListN.{length, length-take, length-drop}
 use borrow.Author.Tests.{leb-true}
-use Rattle.theory.specs.Truth.{and-left, and-right, and-split, or-true}
+use Rattle.theory.specs.Truth.{and-right, and-split, or-true}
 use Rattle.theory.specs.Every.{run, run-length}
 use Rattle.texts.specs.Field.{field}
-use Rattle.fields.specs.Field.{digit, zeroDigit, blank, plain}
+use Rattle.fields.specs.Field.{digit, zeroDigit, plain}
 use Rattle.times.specs.Time.{realTime}
 use Rattle.times.specs.Moment.{real-length}
 use Rattle.times.specs.Order.{earlier}
-use Rattle.columns.specs.Columns.{text, actor, shadow, co2, weight, validTo, filler}
+use Rattle.columns.specs.Columns.{text, actor, validTo}
 use Rattle.vehicles.specs.Vehicle.{L10, tariffHolds, classHolds, emissionHolds, productHolds, engineHolds, validToHolds, separatorHolds, fieldsHold, weightHolds}
+use Rattle.vehicles.specs.Parts.{l10-parts}
 use Rattle.lines.specs.Rules.{L1, L5, L6, L7, L8, L9, recordHolds}
-use Rattle.lines.specs.Coverage.{record-covered}
+use Rattle.lines.specs.Coverage.{record-plain}
 use Rattle.lines.specs.End.{endOf, recordOf}
 use Rattle.records.specs.Written.{record-front, record-rest, record-end}
 
 -- the rules ask for 127 positions
 pub record-long : (l : List ℕ) → recordHolds l ≡ true → 127 ≤ length l
 unfolding field
-record-long l h = omega (arith, simp (length-take, length-drop) at (run-length plain 126 (text l) (record-covered l h)))
+record-long l h = omega (arith, simp (length-take, length-drop) at (run-length plain 126 (text l) (record-plain l h)))
 
 valid-in : (l : List ℕ) → recordHolds l ≡ true → validToHolds l ≡ true
-unfolding recordHolds L10 fieldsHold
-valid-in l h =
-    let t : Bool = run blank 6 (shadow l) && tariffHolds l && classHolds l && productHolds l && engineHolds l && run digit 2 (co2 l) && run digit 4 (weight l) in
-    let k : emissionHolds l && fieldsHold l && weightHolds l ≡ true = and-right (run digit 6 (actor l) && L1 l && L5 l && L6 l && L7 l && L8 l && L9 l) (L10 l) h in
-    let f : fieldsHold l ≡ true = and-right (emissionHolds l) (fieldsHold l) (and-left (emissionHolds l && fieldsHold l) (weightHolds l) k) in
-    and-right t (validToHolds l) (and-left (t && validToHolds l) (separatorHolds l) (and-left (t && validToHolds l && separatorHolds l) (run zeroDigit 11 (filler l)) f))
+unfolding recordHolds
+valid-in l h = l10-parts l (and-right (run digit 6 (actor l) && L1 l && L5 l && L6 l && L7 l && L8 l && L9 l) (L10 l) h) .valid-holds
 
 -- the end of a time is zeros or real, as the time was
 end-real : (reception v : List ℕ) → realTime reception ≡ true → run zeroDigit 14 v || realTime v ≡ true → run zeroDigit 14 (endOf reception v) || realTime (endOf reception v) ≡ true

@@ -2,12 +2,12 @@
 use mathlib.Core.Path.{_≡_, refl, sym, ap, _∙_}
 use mathlib.Core.Bool.{Bool, true, false, not, _&&_, true≢false}
 use mathlib.Core.List.{List, [], _∷_, _++_, map}
-use Prim.Native.Nat.{ℕ, zero, suc, _<_}
+use Prim.Native.Nat.{ℕ, zero, suc, _≤_, _<_}
 use native.Mathlib.Omega.{arith}
 use lib.ListN.{length, getD}
 use borrow.Author.Tests.{not-true}
 use Rattle.theory.specs.Truth.{and-left, and-right, and-none, or-left, or-right, or-both, or-true}
-use Rattle.theory.specs.Same.{eqs, eqs-refl, eqs-sym, mem, mem-append}
+use Rattle.theory.specs.Same.{eqs, eqs-refl, eqs-true, eqs-sym, mem, mem-append}
 use Rattle.theory.specs.Each.{Each, none, more, each-map}
 use Rattle.theory.specs.Keep.{onto, sift, map-onto, mem-onto}
 use Rattle.theory.specs.Pick.{pick}
@@ -85,7 +85,8 @@ module _ {A : Type 0} (key : A → List ℕ) (p : ℕ → Bool) where
 
 -- ---- by their places
 
-mem-at : (xs : List (List ℕ)) (i : ℕ) → i < length xs → mem (getD xs i []) xs ≡ true
+-- what stands at a place is among them
+pub mem-at : (xs : List (List ℕ)) (i : ℕ) → i < length xs → mem (getD xs i []) xs ≡ true
 unfolding mem
 mem-at [] i h = absurd (omega arith)
 mem-at (x ∷ xs) zero h = rw (eqs-refl x)
@@ -98,3 +99,22 @@ distinct-places (x ∷ xs) d zero zero h k e = refl
 distinct-places (x ∷ xs) d zero (suc j) h k e = absurd (true≢false (sym (mem-at xs j (omega arith)) ∙ rw (← e) (distinct-head x xs d)))
 distinct-places (x ∷ xs) d (suc i) zero h k e = absurd (true≢false (sym (mem-at xs i (omega arith)) ∙ rw e (distinct-head x xs d)))
 distinct-places (x ∷ xs) d (suc i) (suc j) h k e = ap suc (distinct-places xs (distinct-tail x xs d) i j (omega arith) (omega arith) e)
+
+-- ---- with one key
+
+module _ (key : List ℕ → List ℕ) (t : List ℕ) where
+  sift-key : (xs : List (List ℕ)) → mem t (map key xs) ≡ false → length (sift (λ x. eqs (key x) t) xs) ≡ 0
+  unfolding mem sift onto
+  sift-key [] h = refl
+  sift-key (x ∷ xs) h =
+      rw (eqs-sym (key x) t, or-left (eqs t (key x)) (mem t (map key xs)) h) (sift-key xs (or-right (eqs t (key x)) (mem t (map key xs)) h))
+
+  -- where no two have one key, at most one has this
+  pub distinct-single : (xs : List (List ℕ)) → distinct (map key xs) ≡ true → length (sift (λ x. eqs (key x) t) xs) ≤ 1
+  unfolding sift onto
+  distinct-single [] h = omega arith
+  distinct-single (x ∷ xs) h = go (eqs (key x) t) refl (distinct-single xs (distinct-tail (key x) (map key xs) h))
+    where
+      go : (b : Bool) → eqs (key x) t ≡ b → length (sift (λ y. eqs (key y) t) xs) ≤ 1 → length (onto b x (sift (λ y. eqs (key y) t) xs)) ≤ 1
+      go true e ih = omega (arith, sift-key xs (rw (eqs-true (key x) t e) at (distinct-head (key x) (map key xs) h)))
+      go false e ih = ih

@@ -6,7 +6,7 @@ use Prim.Native.Nat.{ℕ, zero, suc, _+_, _≤_, _<_}
 use native.Mathlib.Numerals.{add-one}
 use native.Mathlib.Omega.{arith}
 use lib.Dec.{eqb}
-use lib.ListN.{length, take, drop, getD, drop-of-length-le}
+use lib.ListN.{length, take, drop, getD, length-append, drop-of-length-le}
 use lib.Seq.{drop-cons}
 use borrow.Author.Tests.{eqb-true, eq-eqb}
 use Rattle.theory.specs.Truth.{and-left, and-right, and-assoc}
@@ -88,6 +88,15 @@ module _ (p : ℕ → Bool) where
   unfolding all
   all-wider q g [] h = refl
   all-wider q g (x ∷ s) h = rw (g x (and-left (p x) (all p s) h)) (all-wider q g s (and-right (p x) (all p s) h))
+
+  pub run-wider : (q : ℕ → Bool) → ((b : ℕ) → p b ≡ true → q b ≡ true) → (n : ℕ) (s : List ℕ) → run p n s ≡ true → run q n s ≡ true
+  unfolding run
+  run-wider q g n s h = rw (and-left (eqb (length s) n) (all p s) h) (all-wider q g s (run-all n s h))
+
+  pub run-append : (m n : ℕ) (s t : List ℕ) → run p m s ≡ true → run p n t ≡ true → run p (m + n) (s ++ t) ≡ true
+  run-append m n s t h k =
+      all-run (m + n) (s ++ t) (simp length-append (omega (arith, run-length m s h, run-length n t k)))
+      (all-append s t ∙ rw (run-all m s h, run-all n t k))
 
   -- ---- in front
 

@@ -1,6 +1,8 @@
 -- Tests joined by && and ||, and what each answer says of the parts. Assumes nothing.
 use mathlib.Core.Path.{_≡_, refl, sym}
 use mathlib.Core.Bool.{Bool, true, false, not, cond, _&&_, _||_, true≢false, false≢true}
+use mathlib.Core.List.{List, [], _∷_}
+use Rattle.theory.specs.Each.{Each, none, more}
 
 pub and-left : (a b : Bool) → a && b ≡ true → a ≡ true
 and-left true b h = refl
@@ -15,6 +17,19 @@ and-split a b h = (and-left a b h, and-right a b h)
 
 pub and-both : (a b : Bool) → a ≡ true → b ≡ true → a && b ≡ true
 and-both a b h k = rw (h, k)
+
+-- many tests joined by &&, bracketed to the left
+unfoldable pub joined : Bool → List Bool → Bool
+joined a [] = a
+joined a (b ∷ bs) = joined (a && b) bs
+
+pub joined-each : (a : Bool) (bs : List Bool) → joined a bs ≡ true → Each (λ b. b ≡ true) (a ∷ bs)
+unfolding joined
+joined-each a [] h = more h none
+joined-each a (b ∷ bs) h = go (joined-each (a && b) bs h)
+  where
+    go : Each (λ c. c ≡ true) ((a && b) ∷ bs) → Each (λ c. c ≡ true) (a ∷ b ∷ bs)
+    go (more k ks) = more (and-left a b k) (more (and-right a b k) ks)
 
 pub and-none : (a b : Bool) → b ≡ false → a && b ≡ false
 and-none true b h = h

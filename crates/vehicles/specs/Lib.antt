@@ -1,2 +1,3 @@
 pub mod Vehicle
+pub mod Parts
 pub mod Outcomes
