@@ -1,3 +1,4 @@
 pub mod Characters
 pub mod Plain
+pub mod Promises
 pub mod Outcomes

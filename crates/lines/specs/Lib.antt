@@ -3,4 +3,5 @@ pub mod Faultless
 pub mod Coverage
 pub mod End
 pub mod Starred
+pub mod Promises
 pub mod Outcomes

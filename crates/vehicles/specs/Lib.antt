@@ -1,2 +1,3 @@
 pub mod Vehicle
+pub mod Promises
 pub mod Outcomes
