@@ -12,9 +12,9 @@ use Rattle.theory.specs.Same.{eqs}
 use Rattle.header.specs.Header.{sender}
 use Rattle.register.specs.Register.{slotLength, slotsMost}
 use Rattle.importer.specs.declared.Imported.{Imported}
-use Rattle.importer.specs.Outcomes.{Outcome}
+use Rattle.importer.specs.Promises.{Import as Outcome}
 use Rattle.provider.specs.declared.Counted.{Counted}
-use Rattle.provider.specs.Outcomes.{UpdateOutcome}
+use Rattle.provider.specs.Promises.{Update as UpdateOutcome}
 
 -- what is handed over at an import beside the register: the mode, the reception, the issuer rows, the HGV, the HGC's buffer
 pub record Handed : Type 0 where

@@ -17,8 +17,8 @@ use Rattle.register.specs.Search.{countOf}
 use Rattle.register.specs.Laws.{records-chop}
 use Rattle.importer.specs.declared.Imported.{Imported}
 use Rattle.importer.specs.Import.{numberOf}
-use Rattle.importer.specs.Outcomes.{Outcome}
-use Rattle.provider.specs.Outcomes.{UpdateOutcome}
+use Rattle.importer.specs.Promises.{Import as Outcome}
+use Rattle.provider.specs.Promises.{Update as UpdateOutcome}
 use Rattle.demands.specs.Read.{sentBack}
 use Rattle.demands.specs.Own.{own}
 use Rattle.demands.specs.Kept.{Kept, start-kept, number-answered, applied-kept, another-kept, refused-kept}

@@ -50,9 +50,9 @@ use lib.ListN.{take}
 use Rattle.theory.specs.Text.{bytes}
 use Rattle.header.specs.Header.{sender}
 use Rattle.register.specs.Register.{slotLength}
-use Rattle.importer.specs.Outcomes.{Outcome}
+use Rattle.importer.specs.Promises.{Import as Outcome}
 use Rattle.provider.specs.Update.{updateAnswer, copyAfter}
-use Rattle.provider.specs.Outcomes.{UpdateOutcome}
+use Rattle.provider.specs.Promises.{Update as UpdateOutcome}
 use Rattle.demands.specs.Own.{own}
 use Rattle.demands.specs.History.{Handed, Update, History, start, applied, empty}
 use Rattle.demands.specs.Sequence.{copy-is}
