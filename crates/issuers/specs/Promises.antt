@@ -12,5 +12,6 @@ AreRows b r = r ≡ rows b
 abbrev pub IsKnown : List ℕ → List ℕ → Bool → Type 0
 IsKnown b sender r = r ≡ known b sender
 
+-- what a PAN finds among the sender's rows
 abbrev pub IssuedTo : List ℕ → List ℕ → List ℕ → Issued → Type 0
 IssuedTo b sender pan r = r ≡ issuedOf b sender pan

@@ -4,6 +4,7 @@ use mathlib.Core.List.{List}
 use Prim.Native.Nat.{ℕ}
 use Rattle.lookups.specs.Lookup.{panNumber, panPlace, panSlot, plateNumber, platePlace, plateSlot}
 
+-- the place of the record, or the number of records
 abbrev pub PlaceByPan : List ℕ → List ℕ → ℕ → Type 0
 PlaceByPan b key r = r ≡ panPlace b key
 

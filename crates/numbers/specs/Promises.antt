@@ -8,5 +8,6 @@ use Rattle.numbers.specs.Number.{number, decimal}
 abbrev pub Number : List ℕ → ℕ → Type 0
 Number f r = r ≡ number f
 
+-- the text after it
 abbrev pub PutNumber : List ℕ → ℕ → ℕ → ℕ → List ℕ → Type 0
 PutNumber text from width v after = after ≡ putField from (decimal width v) text

@@ -12,12 +12,15 @@ use Rattle.texts.specs.Field.{field}
 use Rattle.pairing.specs.Pairing.{firsts}
 use Rattle.ordering.specs.Places.{placeFor}
 
+-- no two parts marked 0 have the same at these positions
 abbrev pub AreApart : List ℕ → ℕ → ℕ → ℕ → List ℕ → Bool → Type 0
 AreApart b width from to marks r = r ≡ distinct (map (field from to) (pick good marks (chop width (length marks) b)))
 
+-- each part marked 0 is the first that has what it has there
 abbrev pub AreFirsts : List ℕ → ℕ → ℕ → ℕ → List ℕ → Bool → Type 0
 AreFirsts b width from to marks r = r ≡ firsts (map (field from to) (chop width (length marks) b)) marks
 
+-- where the keys of lines stand among n parts, for as many lines as `found` has room for
 abbrev pub Places : List ℕ → ℕ → ℕ → ℕ → ℕ → List ℕ → ℕ → List ℕ → List ℕ → List ℕ → Type 0
 Places b width from to n lines line marks found after =
     after ≡ tableOf (placeFor (field from to) (chop width n b) line lines marks) (length found)

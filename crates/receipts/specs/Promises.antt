@@ -8,6 +8,7 @@ use Rattle.receipts.specs.Receipt.{answersIn, behindHead, receptionOf, s
 abbrev pub AnswersIn : List ℕ → ℕ → Type 0
 AnswersIn g r = r ≡ answersIn g
 
+-- its lines, and what stands behind them
 abbrev pub Answers : List ℕ → List ℕ → Type 0
 Answers g r = r ≡ behindHead g
 

@@ -12,6 +12,7 @@ UsedSlots b r = r ≡ usedIn b
 abbrev pub UsedPart : List ℕ → List ℕ → Type 0
 UsedPart b r = r ≡ usedPart b
 
+-- the place of the first slot with this PAN, or the number of slots
 abbrev pub Find : List ℕ → List ℕ → ℕ → Type 0
 Find b pan r = r ≡ placeOf pan (slotsOf b)
 

@@ -16,6 +16,7 @@ use Rattle.verdicts.specs.Verdict.{fileVerdicts}
 abbrev pub IsNamed : List ℕ → List ℕ → ℕ → List ℕ → Bool → Type 0
 IsNamed lines vs n pan r = r ≡ some (holdsPan pan) (pick good vs (chop lineLength n lines))
 
+-- a verdict for each line
 abbrev pub Judge : List ℕ → List ℕ → List ℕ → List ℕ → List ℕ → Type 0
 Judge h rows register _ after = after ≡ fileVerdicts rows (records register) h
 
