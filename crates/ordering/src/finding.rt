@@ -43,7 +43,7 @@ fn sort(
 }
 
 // The same for n parts, where so many lines are looked for that it pays.
-pub fn index(
+pub(crate) fn index(
     b: &[u8],
     width: usize,
     from: usize,
@@ -289,7 +289,7 @@ fn place_for(
 }
 
 // What `places` promises, by an order that may be sorted.
-pub fn fill(
+pub(crate) fn fill(
     b: &[u8],
     width: usize,
     from: usize,
