@@ -4,4 +4,5 @@ pub mod Standing
 pub mod Taken
 pub mod Others
 pub mod Follows
+pub mod Promises
 pub mod Outcomes

@@ -3,8 +3,8 @@ use mathlib.Core.Path.{_≡_}
 use mathlib.Core.List.{List}
 use Prim.Native.Nat.{ℕ}
 use Rattle.theory.specs.Outcome.{one-outcome}
-use Rattle.upkeep.specs.Stays.{Holds}
+use Rattle.applying.specs.Promises.{Apply}
 
--- the register after apply
-pub apply-one : (n : ℕ) (R : List (List ℕ)) (r s : List ℕ) → Holds n R r → Holds n R s → r ≡ s
-apply-one n R r s h k = one-outcome (h .bytes) (k .bytes)
+pub apply-one : (mode : ℕ) (b who reception lines vs r s : List ℕ)
+    → Apply mode b who reception lines vs r → Apply mode b who reception lines vs s → r ≡ s
+apply-one mode b who reception lines vs r s h k = one-outcome (h .bytes) (k .bytes)

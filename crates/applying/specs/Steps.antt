@@ -12,7 +12,7 @@ use Rattle.lines.specs.Rules.{recordHolds}
 use Rattle.lines.specs.End.{recordOf}
 use Rattle.register.specs.Register.{slotsIn, records, usedIn, inOrder}
 use Rattle.register.specs.Search.{ofActor}
-use Rattle.holdings.specs.Holdings.{stored, storedAll, others, isFull}
+use Rattle.holdings.specs.Holdings.{takenIn, stored, storedAll, others, isFull}
 use Rattle.upkeep.specs.Stays.{Holds}
 
 -- 1 marks a record of this actor
@@ -32,6 +32,11 @@ storedIf false x R = R
 pub record Left (n : ℕ) (R : List (List ℕ)) (b : List ℕ) (used : ℕ) : Type 0 where
   pub holds : Holds n R b
   pub counted : used ≡ length R
+
+-- the taken lines were stored in b one after the other
+abbrev pub Stored : List ℕ → List ℕ → List ℕ → List ℕ → List ℕ → Type 0
+Stored reception b lines vs after =
+    Holds (slotsIn b) (storedAll (records b) (map (recordOf reception) (takenIn vs lines))) after
 
 -- b, of which `used` slots are, can take the line l where `taken` says so
 pub record Ready (taken : Bool) (reception l b : List ℕ) (used : ℕ) : Type 0 where

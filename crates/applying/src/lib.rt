@@ -8,18 +8,18 @@ ghost use lib.Dec.{eqb, ltb};
 ghost use lib.ListN.{length, take, getD};
 ghost use Rattle.theory.specs.Count.{bump};
 ghost use Rattle.theory.specs.Parts.{chop};
-ghost use Rattle.theory.specs.Pick.{good, pick};
+ghost use Rattle.theory.specs.Pick.{good};
 ghost use Rattle.columns.specs.Columns.{panOf};
 ghost use Rattle.lines.specs.End.{recordOf};
 ghost use Rattle.hgv.specs.Layout.{lineLength};
 ghost use Rattle.register.specs.Register.{slotLength, slotsMost, slotsIn, records, usedIn, inOrder};
 ghost use Rattle.register.specs.Search.{placeOf};
-ghost use Rattle.holdings.specs.Holdings.{stored, storedAll, others, isFull, holdings};
+ghost use Rattle.holdings.specs.Holdings.{takenIn, stored, storedAll, others, isFull};
 ghost use Rattle.holdings.specs.AtOnce.{placesIn};
-ghost use Rattle.upkeep.specs.Stays.{Holds};
 ghost use Rattle.applying.specs.Fit.{Fit};
 ghost use Rattle.applying.specs.Standing.{Stands, Standing, Sought};
-ghost use Rattle.applying.specs.Steps.{markOf, prepared, storedIf, Left, Ready, Storing};
+ghost use Rattle.applying.specs.Steps.{markOf, prepared, storedIf, Left, Stored, Ready, Storing};
+ghost use Rattle.applying.specs.Promises.{Apply};
 
 const SLOT: usize = 128;
 
@@ -65,7 +65,8 @@ fn slot_for(
     found: &[u16],
     i: usize,
 ) -> usize
-    requires { ⌜ (used ≡ usedIn (now register)) × (i < length (now found) → Stands first (records (now register)) (now pan) (getD (now found) i 0)) ⌝ }
+    requires counted { ⌜ used ≡ usedIn (now register) ⌝ }
+    requires told { ⌜ (i < length (now found) → Stands first (records (now register)) (now pan) (getD (now found) i 0)) ⌝ }
     ensures { λ r. ⌜ r ≡ placeOf (now (pan .entry)) (records (now (register .entry))) ⌝ }
 {
     if i < found.len() {
@@ -84,7 +85,8 @@ fn store(
     found: &[u16],
     i: usize,
 ) -> usize
-    requires { ⌜ Ready true (now reception) (now line) (now register) used × (i < length (now found) → Stands first (records (now register)) (panOf (now line)) (getD (now found) i 0)) ⌝ }
+    requires ready { ⌜ Ready true (now reception) (now line) (now register) used ⌝ }
+    requires told { ⌜ (i < length (now found) → Stands first (records (now register)) (panOf (now line)) (getD (now found) i 0)) ⌝ }
     ensures { λ r. ⌜ Left (slotsIn (now (register .entry))) (stored (recordOf (now (reception .entry)) (now (line .entry))) (records (now (register .entry)))) (now (register .exit)) r ⌝ }
 {
     let pan = texts::field(line, columns::PAN_FROM, columns::PAN_TO);
@@ -104,7 +106,8 @@ fn take_line(
     found: &[u16],
     i: usize,
 ) -> usize
-    requires { ⌜ Ready (good verdict) (now reception) (now line) (now register) used × (i < length (now found) → good verdict ≡ true → Stands first (records (now register)) (panOf (now line)) (getD (now found) i 0)) ⌝ }
+    requires ready { ⌜ Ready (good verdict) (now reception) (now line) (now register) used ⌝ }
+    requires told { ⌜ (i < length (now found) → good verdict ≡ true → Stands first (records (now register)) (panOf (now line)) (getD (now found) i 0)) ⌝ }
     ensures { λ r. ⌜ Left (slotsIn (now (register .entry))) (storedIf (good verdict) (recordOf (now (reception .entry)) (now (line .entry))) (records (now (register .entry)))) (now (register .exit)) r ⌝ }
 {
     if verdict != 0 {
@@ -122,8 +125,10 @@ fn store_all(
     reception: &[u8],
     found: &[u16],
 )
-    requires { ⌜ (length (now verdicts) * lineLength ≤ length (now lines)) × Storing (now reception) (slotsIn (now register)) (storedAll (records (now register)) (map (recordOf (now reception)) (pick good (now verdicts) (chop lineLength (length (now verdicts)) (now lines))))) (pick good (now verdicts) (chop lineLength (length (now verdicts)) (now lines))) (now register) first × Standing (now verdicts) (now lines) first (records (now register)) (now found) 0 ⌝ }
-    ensures { λ _. ⌜ Holds (slotsIn (now (register .entry))) (storedAll (records (now (register .entry))) (map (recordOf (now (reception .entry))) (pick good (now (verdicts .entry)) (chop lineLength (length (now (verdicts .entry))) (now (lines .entry)))))) (now (register .exit)) ⌝ }
+    requires lined { ⌜ length (now verdicts) * lineLength ≤ length (now lines) ⌝ }
+    requires storing { ⌜ Storing (now reception) (slotsIn (now register)) (storedAll (records (now register)) (map (recordOf (now reception)) (takenIn (now verdicts) (now lines)))) (takenIn (now verdicts) (now lines)) (now register) first ⌝ }
+    requires standing { ⌜ Standing (now verdicts) (now lines) first (records (now register)) (now found) 0 ⌝ }
+    ensures { λ _. ⌜ Stored (now (reception .entry)) (now (register .entry)) (now (lines .entry)) (now (verdicts .entry)) (now (register .exit)) ⌝ }
 {
     let mut used = first;
     let mut i: usize = 0;
@@ -152,7 +157,10 @@ fn place_lines(
     verdicts: &[u8],
     found: &mut [u16],
 )
-    requires { ⌜ (length (now verdicts) * lineLength ≤ length (now lines)) × (length (now found) ≤ length (now verdicts)) × (used ≡ usedIn (now register)) × (used ≤ slotsMost) ⌝ }
+    requires lined { ⌜ length (now verdicts) * lineLength ≤ length (now lines) ⌝ }
+    requires judged { ⌜ length (now found) ≤ length (now verdicts) ⌝ }
+    requires counted { ⌜ used ≡ usedIn (now register) ⌝ }
+    requires few { ⌜ used ≤ slotsMost ⌝ }
     ensures { λ _. ⌜ now (found .exit) ≡ cond (isFull mode) (now (found .entry)) (placesIn (records (now (register .entry))) (now (lines .entry)) (now (verdicts .entry)) (length (now (found .entry)))) ⌝ }
 {
     if mode == FULL {
@@ -171,8 +179,11 @@ fn store_placed(
     reception: &[u8],
     found: &mut [u16],
 )
-    requires { ⌜ (length (now verdicts) * lineLength ≤ length (now lines)) × (length (now found) ≤ length (now verdicts)) × Storing (now reception) (slotsIn (now register)) (storedAll (records (now register)) (map (recordOf (now reception)) (pick good (now verdicts) (chop lineLength (length (now verdicts)) (now lines))))) (pick good (now verdicts) (chop lineLength (length (now verdicts)) (now lines))) (now register) used × Sought mode (records (now register)) (pick good (now verdicts) (chop lineLength (length (now verdicts)) (now lines))) (now found) ⌝ }
-    ensures { λ _. ⌜ Holds (slotsIn (now (register .entry))) (storedAll (records (now (register .entry))) (map (recordOf (now (reception .entry))) (pick good (now (verdicts .entry)) (chop lineLength (length (now (verdicts .entry))) (now (lines .entry)))))) (now (register .exit)) ⌝ }
+    requires lined { ⌜ length (now verdicts) * lineLength ≤ length (now lines) ⌝ }
+    requires judged { ⌜ length (now found) ≤ length (now verdicts) ⌝ }
+    requires storing { ⌜ Storing (now reception) (slotsIn (now register)) (storedAll (records (now register)) (map (recordOf (now reception)) (takenIn (now verdicts) (now lines)))) (takenIn (now verdicts) (now lines)) (now register) used ⌝ }
+    requires sought { ⌜ Sought mode (records (now register)) (takenIn (now verdicts) (now lines)) (now found) ⌝ }
+    ensures { λ _. ⌜ Stored (now (reception .entry)) (now (register .entry)) (now (lines .entry)) (now (verdicts .entry)) (now (register .exit)) ⌝ }
 {
     place_lines(mode, register, used, lines, verdicts, found);
     store_all(register, used, lines, verdicts, reception, found);
@@ -238,8 +249,10 @@ pub fn apply(
     lines: &[u8],
     verdicts: &[u8],
 )
-    requires { ⌜ (length (now verdicts) * lineLength ≤ length (now lines)) × ((inOrder (now register) ≡ true) × Fit mode (now who) (now reception) (slotsIn (now register)) (records (now register)) (pick good (now verdicts) (chop lineLength (length (now verdicts)) (now lines)))) ⌝ }
-    ensures { λ _. ⌜ Holds (slotsIn (now (register .entry))) (holdings mode (now (who .entry)) (now (reception .entry)) (records (now (register .entry))) (pick good (now (verdicts .entry)) (chop lineLength (length (now (verdicts .entry))) (now (lines .entry))))) (now (register .exit)) ⌝ }
+    requires lined { ⌜ length (now verdicts) * lineLength ≤ length (now lines) ⌝ }
+    requires ordered { ⌜ inOrder (now register) ≡ true ⌝ }
+    requires fit { ⌜ Fit mode (now who) (now reception) (slotsIn (now register)) (records (now register)) (takenIn (now verdicts) (now lines)) ⌝ }
+    ensures { λ _. ⌜ Apply mode (now (register .entry)) (now (who .entry)) (now (reception .entry)) (now (lines .entry)) (now (verdicts .entry)) (now (register .exit)) ⌝ }
 {
     let used = prepare(mode, register, who);
     let k = holdings::at_once(used, verdicts.len());

@@ -4,16 +4,13 @@ use mathlib.Core.Bool.{Bool}
 use mathlib.Core.List.{List}
 use Prim.Native.Nat.{ℕ}
 use Rattle.theory.specs.Outcome.{one-outcome}
-use Rattle.theory.specs.Every.{run, leading}
-use Rattle.characters.specs.Characters.{hex, filledTo}
+use Rattle.characters.specs.Promises.{IsHex, DigitsIn, IsFilled}
 
--- is_hex
-pub hex-one : (n : ℕ) (f : List ℕ) (r s : Bool) → r ≡ run hex n f → s ≡ run hex n f → r ≡ s
-hex-one n f r s = one-outcome
+pub is-hex-one : (f : List ℕ) (n : ℕ) (r s : Bool) → IsHex f n r → IsHex f n s → r ≡ s
+is-hex-one f n r s = one-outcome
 
--- digits_in
-pub leading-one : (p : ℕ → Bool) (f : List ℕ) (r s : ℕ) → r ≡ leading p f → s ≡ leading p f → r ≡ s
-leading-one p f r s = one-outcome
+pub digits-in-one : (f : List ℕ) (r s : ℕ) → DigitsIn f r → DigitsIn f s → r ≡ s
+digits-in-one f r s = one-outcome
 
-pub filled-one : (k : ℕ) (f : List ℕ) (r s : Bool) → r ≡ filledTo k f → s ≡ filledTo k f → r ≡ s
-filled-one k f r s = one-outcome
+pub is-filled-one : (f : List ℕ) (k : ℕ) (r s : Bool) → IsFilled f k r → IsFilled f k s → r ≡ s
+is-filled-one f k r s = one-outcome

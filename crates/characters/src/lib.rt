@@ -1,9 +1,10 @@
 // The characters of a field: hexadecimal digits, how many digits stand in front, and blanks behind them. Every function
 // takes a slice of any length.
 ghost use mathlib.Core.Path.{_≡_};
-ghost use Rattle.theory.specs.Every.{all, run, leading};
+ghost use Rattle.theory.specs.Every.{all};
 ghost use Rattle.fields.specs.Field.{digit};
-ghost use Rattle.characters.specs.Characters.{hex, filledTo};
+ghost use Rattle.characters.specs.Characters.{hex};
+ghost use Rattle.characters.specs.Promises.{IsHex, DigitsIn, IsFilled};
 
 fn is_digit(b: u8) -> bool
     ensures { λ r. ⌜ r ≡ digit b ⌝ }
@@ -34,14 +35,14 @@ fn all_hex(s: &[u8]) -> bool
 }
 
 pub fn is_hex(f: &[u8], n: usize) -> bool
-    ensures { λ r. ⌜ r ≡ run hex n (now (f .entry)) ⌝ }
+    ensures { λ r. ⌜ IsHex (now (f .entry)) n r ⌝ }
 {
     (f.len() == n) & all_hex(f)
 }
 
 // How many digits stand in front.
 pub fn digits_in(f: &[u8]) -> usize
-    ensures { λ r. ⌜ r ≡ leading digit (now (f .entry)) ⌝ }
+    ensures { λ r. ⌜ DigitsIn (now (f .entry)) r ⌝ }
 {
     let mut i: usize = 0;
     while i < f.len() {
@@ -55,7 +56,7 @@ pub fn digits_in(f: &[u8]) -> usize
 
 // At least one character, k in all, and blanks behind them.
 pub fn is_filled(f: &[u8], k: usize) -> bool
-    ensures { λ r. ⌜ r ≡ filledTo k (now (f .entry)) ⌝ }
+    ensures { λ r. ⌜ IsFilled (now (f .entry)) k r ⌝ }
 {
     if f.len() < k {
         return false;

@@ -4,16 +4,16 @@ use mathlib.Core.Bool.{Bool}
 use mathlib.Core.List.{List}
 use Prim.Native.Nat.{ℕ}
 use Rattle.theory.specs.Outcome.{one-outcome}
-use Rattle.claims.specs.Claims.{versionHolds, incrementalOnly, receiverHolds, countHolds}
+use Rattle.claims.specs.Promises.{HasVersion, IsIncrementalOnly, HasReceiver, HasCount}
 
-pub version-one : (h : List ℕ) (r s : Bool) → r ≡ versionHolds h → s ≡ versionHolds h → r ≡ s
-version-one h r s = one-outcome
+pub has-version-one : (h : List ℕ) (r s : Bool) → HasVersion h r → HasVersion h s → r ≡ s
+has-version-one h r s = one-outcome
 
-pub incremental-one : (h : List ℕ) (r s : Bool) → r ≡ incrementalOnly h → s ≡ incrementalOnly h → r ≡ s
-incremental-one h r s = one-outcome
+pub is-incremental-only-one : (h : List ℕ) (r s : Bool) → IsIncrementalOnly h r → IsIncrementalOnly h s → r ≡ s
+is-incremental-only-one h r s = one-outcome
 
-pub receiver-one : (h : List ℕ) (r s : Bool) → r ≡ receiverHolds h → s ≡ receiverHolds h → r ≡ s
-receiver-one h r s = one-outcome
+pub has-receiver-one : (h : List ℕ) (r s : Bool) → HasReceiver h r → HasReceiver h s → r ≡ s
+has-receiver-one h r s = one-outcome
 
-pub count-one : (h : List ℕ) (r s : Bool) → r ≡ countHolds h → s ≡ countHolds h → r ≡ s
-count-one h r s = one-outcome
+pub has-count-one : (h : List ℕ) (r s : Bool) → HasCount h r → HasCount h s → r ≡ s
+has-count-one h r s = one-outcome

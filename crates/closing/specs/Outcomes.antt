@@ -1,14 +1,10 @@
--- Two outcomes of one call are one, for each public function of this crate. Assumes nothing.
+-- Two outcomes of one call are one, for the public function of this crate. Assumes nothing.
 use mathlib.Core.Path.{_≡_}
 use mathlib.Core.List.{List}
 use Prim.Native.Nat.{ℕ}
-use lib.ListN.{length}
 use Rattle.theory.specs.Outcome.{one-outcome}
-use Rattle.closing.specs.Closing.{kept, closedUp}
+use Rattle.closing.specs.Promises.{CloseUp}
 
--- the block after close_up, and its answer
-pub closed-one : (marks b r s : List ℕ) → r ≡ closedUp 128 marks b → s ≡ closedUp 128 marks b → r ≡ s
-closed-one marks b r s = one-outcome
-
-pub count-one : (marks b : List ℕ) (r s : ℕ) → r ≡ length (kept 128 marks b) → s ≡ length (kept 128 marks b) → r ≡ s
-count-one marks b r s = one-outcome
+pub close-up-one : (block marks : List ℕ) (r r′ : ℕ) (after after′ : List ℕ)
+    → CloseUp block marks r after → CloseUp block marks r′ after′ → (r ≡ r′) × (after ≡ after′)
+close-up-one block marks r r′ after after′ h k = (one-outcome (h .1) (k .1), one-outcome (h .0) (k .0))

@@ -8,7 +8,8 @@ ghost use Rattle.theory.specs.Pick.{good, pick};
 ghost use Rattle.theory.specs.Put.{putPart};
 ghost use Rattle.theory.specs.Pad.{free};
 ghost use Rattle.theory.specs.CloseUp.{Closing, Freeing, moved};
-ghost use Rattle.closing.specs.Closing.{kept, closedUp, stays};
+ghost use Rattle.closing.specs.Closing.{stays};
+ghost use Rattle.closing.specs.Promises.{CloseUp};
 
 const SLOT: usize = 128;
 
@@ -89,7 +90,7 @@ fn free_up(block: &mut [u8], k: usize, n: usize)
 
 // The slots that are marked, or have no mark, go; how many stay.
 pub fn close_up(block: &mut [u8], marks: &[u8]) -> usize
-    ensures { λ r. ⌜ (now (block .exit) ≡ closedUp 128 (now (marks .entry)) (now (block .entry))) × (r ≡ length (kept 128 (now (marks .entry)) (now (block .entry)))) ⌝ }
+    ensures { λ r. ⌜ CloseUp (now (block .entry)) (now (marks .entry)) r (now (block .exit)) ⌝ }
 {
     let n = block.len() / SLOT;
     let k = move_up(block, marks, n);

@@ -10,7 +10,7 @@ use Rattle.provider.specs.declared.Counted.{Counted}
 use Rattle.provider.specs.Answer.{refusal, counted}
 use Rattle.provider.specs.ReadBack.{fileStops, blockStops, readNumber, readAnswer, verdictsAfter}
 use Rattle.provider.specs.Update.{copyStops, roomStops, updateNumber, updateAnswer, copyAfter}
-use Rattle.provider.specs.Outcomes.{ReadOutcome as ReadBack, UpdateOutcome as Update}
+use Rattle.provider.specs.Promises.{ReadBack, Update}
 use Rattle.provider.specs.Numbers.{read-refused, verdicts-stay, update-refused, copy-stays}
 
 -- ---- reading back

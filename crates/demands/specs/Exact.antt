@@ -26,11 +26,11 @@ use Rattle.holdings.specs.Storing.{all-grows}
 use Rattle.upkeep.specs.Stays.{Holds}
 use Rattle.importer.specs.declared.Imported.{Imported}
 use Rattle.importer.specs.Import.{judged, following, confirmed, numberOf, success, written, told}
-use Rattle.importer.specs.Outcomes.{Outcome as Import}
+use Rattle.importer.specs.Promises.{Import}
 use Rattle.importer.specs.Follows.{adds-up, holds-following, others-same, places-same}
 use Rattle.provider.specs.declared.Counted.{Counted}
 use Rattle.provider.specs.Answer.{refusal}
-use Rattle.provider.specs.Outcomes.{ReadOutcome as ReadBack}
+use Rattle.provider.specs.Promises.{ReadBack}
 use Rattle.demands.specs.Read.{sentBack, sameCounts, short-answer, short-block, read-answer, read-verdicts}
 use Rattle.demands.specs.History.{Handed, Imports}
 use Rattle.demands.specs.Imports.{number-0, done-is, register-is, hgc-is}

@@ -11,9 +11,9 @@ use Rattle.theory.specs.Keep.{sift}
 use Rattle.header.specs.Header.{sender}
 use Rattle.register.specs.Register.{slotLength, slotsMost}
 use Rattle.importer.specs.declared.Imported.{Imported}
-use Rattle.importer.specs.Outcomes.{Outcome as Import}
+use Rattle.importer.specs.Promises.{Import}
 use Rattle.provider.specs.declared.Counted.{Counted}
-use Rattle.provider.specs.Outcomes.{UpdateOutcome as Update}
+use Rattle.provider.specs.Promises.{Update}
 
 -- what is handed over at an import beside the register: the mode, the reception, the issuer rows, the HGV, the HGC's buffer
 pub record Handed : Type 0 where

@@ -5,7 +5,7 @@ use Prim.Native.Nat.{ℕ}
 use Rattle.theory.specs.Stopped.{number-kept}
 use Rattle.importer.specs.declared.Imported.{Imported}
 use Rattle.importer.specs.Import.{numberOf, refusal, success, written, told, answer, registerAfter, hgcAfter}
-use Rattle.importer.specs.Outcomes.{Outcome as Import}
+use Rattle.importer.specs.Promises.{Import}
 use Rattle.importer.specs.Numbers.{stop-answer, stop-register, stop-hgc, done-answer, done-register, done-hgc}
 use Rattle.demands.specs.History.{Handed, Imports}
 

@@ -20,9 +20,10 @@ use Rattle.register.specs.Register.{slotLength, slotsMost, slotsIn, records, in
 use Rattle.register.specs.Laws.{records-pad, order-pad, slots-pad}
 use Rattle.upkeep.specs.Stays.{Holds}
 use Rattle.importer.specs.declared.Imported.{Imported}
-use Rattle.importer.specs.Outcomes.{Outcome as Import}
+use Rattle.importer.specs.Promises.{Import}
 use Rattle.provider.specs.declared.Counted.{Counted}
-use Rattle.provider.specs.Outcomes.{UpdateOutcome as Update, update-one}
+use Rattle.provider.specs.Promises.{Update}
+use Rattle.provider.specs.Outcomes.{update-one}
 use Rattle.demands.specs.Read.{sentBack, sameCounts}
 use Rattle.demands.specs.Own.{own}
 use Rattle.demands.specs.Mirror.{Mirrors, after-holds, another-mirrors, update-answer, update-mirrors}

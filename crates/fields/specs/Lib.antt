@@ -1,3 +1,5 @@
 pub mod Field
 pub mod Listed
+pub mod Plain
+pub mod Promises
 pub mod Outcomes

@@ -4,8 +4,19 @@ use mathlib.Core.Bool.{Bool}
 use mathlib.Core.List.{List}
 use Prim.Native.Nat.{ℕ}
 use Rattle.theory.specs.Outcome.{one-outcome}
-use Rattle.theory.specs.Every.{run}
+use Rattle.fields.specs.Promises.{IsDigits, IsZeros, IsZeroBytes, IsBlanks, IsCapitals}
 
--- is_digits, is_zeros, is_zero_bytes, is_blanks, is_capitals
-pub run-one : (p : ℕ → Bool) (n : ℕ) (f : List ℕ) (r s : Bool) → r ≡ run p n f → s ≡ run p n f → r ≡ s
-run-one p n f r s = one-outcome
+pub is-digits-one : (f : List ℕ) (n : ℕ) (r s : Bool) → IsDigits f n r → IsDigits f n s → r ≡ s
+is-digits-one f n r s = one-outcome
+
+pub is-zeros-one : (f : List ℕ) (n : ℕ) (r s : Bool) → IsZeros f n r → IsZeros f n s → r ≡ s
+is-zeros-one f n r s = one-outcome
+
+pub is-zero-bytes-one : (f : List ℕ) (n : ℕ) (r s : Bool) → IsZeroBytes f n r → IsZeroBytes f n s → r ≡ s
+is-zero-bytes-one f n r s = one-outcome
+
+pub is-blanks-one : (f : List ℕ) (n : ℕ) (r s : Bool) → IsBlanks f n r → IsBlanks f n s → r ≡ s
+is-blanks-one f n r s = one-outcome
+
+pub is-capitals-one : (f : List ℕ) (n : ℕ) (r s : Bool) → IsCapitals f n r → IsCapitals f n s → r ≡ s
+is-capitals-one f n r s = one-outcome

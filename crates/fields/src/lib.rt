@@ -2,7 +2,8 @@
 // simply not in form.
 ghost use mathlib.Core.Path.{_≡_};
 ghost use Rattle.theory.specs.Every.{all, run};
-ghost use Rattle.fields.specs.Field.{between, digit, zeroDigit, zeroByte, blank, capital};
+ghost use Rattle.fields.specs.Field.{between};
+ghost use Rattle.fields.specs.Promises.{IsDigits, IsZeros, IsZeroBytes, IsBlanks, IsCapitals};
 
 fn is_between(b: u8, lo: u8, hi: u8) -> bool
     ensures { λ r. ⌜ r ≡ between lo hi b ⌝ }
@@ -31,31 +32,31 @@ fn is_run(f: &[u8], n: usize, lo: u8, hi: u8) -> bool
 }
 
 pub fn is_digits(f: &[u8], n: usize) -> bool
-    ensures { λ r. ⌜ r ≡ run digit n (now (f .entry)) ⌝ }
+    ensures { λ r. ⌜ IsDigits (now (f .entry)) n r ⌝ }
 {
     is_run(f, n, 48, 57)
 }
 
 pub fn is_zeros(f: &[u8], n: usize) -> bool
-    ensures { λ r. ⌜ r ≡ run zeroDigit n (now (f .entry)) ⌝ }
+    ensures { λ r. ⌜ IsZeros (now (f .entry)) n r ⌝ }
 {
     is_run(f, n, 48, 48)
 }
 
 pub fn is_zero_bytes(f: &[u8], n: usize) -> bool
-    ensures { λ r. ⌜ r ≡ run zeroByte n (now (f .entry)) ⌝ }
+    ensures { λ r. ⌜ IsZeroBytes (now (f .entry)) n r ⌝ }
 {
     is_run(f, n, 0, 0)
 }
 
 pub fn is_blanks(f: &[u8], n: usize) -> bool
-    ensures { λ r. ⌜ r ≡ run blank n (now (f .entry)) ⌝ }
+    ensures { λ r. ⌜ IsBlanks (now (f .entry)) n r ⌝ }
 {
     is_run(f, n, 32, 32)
 }
 
 pub fn is_capitals(f: &[u8], n: usize) -> bool
-    ensures { λ r. ⌜ r ≡ run capital n (now (f .entry)) ⌝ }
+    ensures { λ r. ⌜ IsCapitals (now (f .entry)) n r ⌝ }
 {
     is_run(f, n, 65, 90)
 }

@@ -4,13 +4,13 @@ use mathlib.Core.Bool.{Bool}
 use mathlib.Core.List.{List}
 use Prim.Native.Nat.{ℕ}
 use Rattle.theory.specs.Outcome.{one-outcome}
-use Rattle.frames.specs.Frames.{footerForm, footerHolds, framesHold}
+use Rattle.frames.specs.Promises.{IsFooter, HasFooter, HasFrames}
 
-pub footer-form-one : (f : List ℕ) (r s : Bool) → r ≡ footerForm f → s ≡ footerForm f → r ≡ s
-footer-form-one f r s = one-outcome
+pub is-footer-one : (f : List ℕ) (r s : Bool) → IsFooter f r → IsFooter f s → r ≡ s
+is-footer-one f r s = one-outcome
 
-pub footer-one : (h : List ℕ) (r s : Bool) → r ≡ footerHolds h → s ≡ footerHolds h → r ≡ s
-footer-one h r s = one-outcome
+pub has-footer-one : (h : List ℕ) (r s : Bool) → HasFooter h r → HasFooter h s → r ≡ s
+has-footer-one h r s = one-outcome
 
-pub frames-one : (h : List ℕ) (r s : Bool) → r ≡ framesHold h → s ≡ framesHold h → r ≡ s
-frames-one h r s = one-outcome
+pub has-frames-one : (h : List ℕ) (r s : Bool) → HasFrames h r → HasFrames h s → r ≡ s
+has-frames-one h r s = one-outcome

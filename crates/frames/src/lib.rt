@@ -8,7 +8,8 @@ ghost use Rattle.theory.specs.Parts.{chop};
 ghost use Rattle.theory.specs.Walk.{each};
 ghost use Rattle.fields.specs.Field.{plain};
 ghost use Rattle.hgv.specs.Layout.{footer};
-ghost use Rattle.frames.specs.Frames.{footerForm, footerHolds, framed, framesHold};
+ghost use Rattle.frames.specs.Frames.{framed};
+ghost use Rattle.frames.specs.Promises.{IsFooter, HasFooter, HasFrames};
 
 // The columns of the footer.
 const FOOTER_TYPE: usize = 1;
@@ -33,7 +34,7 @@ fn footer<'a>(h: &'a [u8]) -> &'a [u8]
 }
 
 pub fn is_footer(f: &[u8]) -> bool
-    ensures { λ r. ⌜ r ≡ footerForm (now (f .entry)) ⌝ }
+    ensures { λ r. ⌜ IsFooter (now (f .entry)) r ⌝ }
 {
     (f.len() == hgv::FOOTER)
         & texts::has_text(f, FOOTER_TYPE, FOOTER_TYPE, b"2")
@@ -42,7 +43,7 @@ pub fn is_footer(f: &[u8]) -> bool
 }
 
 pub fn has_footer(h: &[u8]) -> bool
-    ensures { λ r. ⌜ r ≡ footerHolds (now (h .entry)) ⌝ }
+    ensures { λ r. ⌜ HasFooter (now (h .entry)) r ⌝ }
 {
     is_footer(footer(h))
 }
@@ -86,7 +87,7 @@ fn each_framed(lines: &[u8], width: usize, n: usize) -> bool
 }
 
 pub fn has_frames(h: &[u8]) -> bool
-    ensures { λ r. ⌜ r ≡ framesHold (now (h .entry)) ⌝ }
+    ensures { λ r. ⌜ HasFrames (now (h .entry)) r ⌝ }
 {
     each_framed(hgv::body(h), hgv::LINE, hgv::lines_in(h))
 }

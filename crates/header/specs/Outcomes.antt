@@ -4,10 +4,10 @@ use mathlib.Core.Bool.{Bool}
 use mathlib.Core.List.{List}
 use Prim.Native.Nat.{ℕ}
 use Rattle.theory.specs.Outcome.{one-outcome}
-use Rattle.header.specs.Header.{sender, headerHolds}
+use Rattle.header.specs.Promises.{Sender, HasHeader}
 
-pub sender-one : (h r s : List ℕ) → r ≡ sender h → s ≡ sender h → r ≡ s
+pub sender-one : (h r s : List ℕ) → Sender h r → Sender h s → r ≡ s
 sender-one h r s = one-outcome
 
-pub header-one : (h : List ℕ) (r s : Bool) → r ≡ headerHolds h → s ≡ headerHolds h → r ≡ s
-header-one h r s = one-outcome
+pub has-header-one : (h : List ℕ) (r s : Bool) → HasHeader h r → HasHeader h s → r ≡ s
+has-header-one h r s = one-outcome

@@ -8,10 +8,11 @@ ghost use Rattle.texts.specs.Field.{field};
 ghost use Rattle.fields.specs.Field.{digit, zeroDigit};
 ghost use Rattle.times.specs.Time.{realTime};
 ghost use Rattle.sequences.specs.Sequence.{sequence};
-ghost use Rattle.header.specs.Header.{sender, listSequence, creation, previousHolds, headerHolds};
+ghost use Rattle.header.specs.Header.{sender, listSequence, creation, previousHolds};
+ghost use Rattle.header.specs.Promises.{Sender, HasHeader};
 
 pub fn sender<'a>(h: &'a [u8]) -> &'a [u8]
-    ensures { λ r. ⌜ now r ≡ sender (now (h .entry)) ⌝ }
+    ensures { λ r. ⌜ Sender (now (h .entry)) (now r) ⌝ }
 {
     texts::field(h, columns::SENDER_FROM, columns::SENDER_TO)
 }
@@ -54,7 +55,7 @@ fn has_creation(h: &[u8]) -> bool
 }
 
 pub fn has_header(h: &[u8]) -> bool
-    ensures { λ r. ⌜ r ≡ headerHolds (now (h .entry)) ⌝ }
+    ensures { λ r. ⌜ HasHeader (now (h .entry)) r ⌝ }
 {
     texts::has_text(h, columns::HEADER_TYPE, columns::HEADER_TYPE, b"0")
         & has_digits(h, columns::SENDER_FROM, columns::SENDER_TO, 6)

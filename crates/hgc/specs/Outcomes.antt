@@ -1,15 +1,13 @@
 -- Two outcomes of one call are one, for each public function of this crate. Assumes nothing.
 use mathlib.Core.Path.{_≡_}
-use mathlib.Core.List.{List, _++_}
+use mathlib.Core.List.{List}
 use Prim.Native.Nat.{ℕ}
-use lib.ListN.{length, drop}
 use Rattle.theory.specs.Outcome.{one-outcome}
-use Rattle.hgc.specs.Confirmation.{confirmationLength, confirmation}
+use Rattle.hgc.specs.Promises.{Write, LengthFor}
 
--- the block after write
-pub write-one : (reception h vs o r s : List ℕ) → r ≡ confirmation reception h vs ++ drop (length (confirmation reception h vs)) o
-    → s ≡ confirmation reception h vs ++ drop (length (confirmation reception h vs)) o → r ≡ s
-write-one reception h vs o r s = one-outcome
+pub write-one : (hgc reception h vs : List ℕ) (taken rejected : ℕ) (r s : List ℕ)
+    → Write hgc reception h vs taken rejected r → Write hgc reception h vs taken rejected s → r ≡ s
+write-one hgc reception h vs taken rejected r s = one-outcome
 
-pub length-one : (rejected r s : ℕ) → r ≡ confirmationLength rejected → s ≡ confirmationLength rejected → r ≡ s
-length-one rejected r s = one-outcome
+pub length-for-one : (rejected r s : ℕ) → LengthFor rejected r → LengthFor rejected s → r ≡ s
+length-for-one rejected r s = one-outcome

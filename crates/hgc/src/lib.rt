@@ -3,9 +3,8 @@ pub mod places;
 
 ghost use mathlib.Core.Path.{_≡_};
 ghost use mathlib.Core.Bool.{true};
-ghost use mathlib.Core.List.{_++_};
 ghost use Prim.Native.Nat.{_+_, _*_, _-_, _≤_};
-ghost use lib.ListN.{length, drop};
+ghost use lib.ListN.{length};
 ghost use Rattle.theory.specs.Parts.{chop};
 ghost use Rattle.theory.specs.Pick.{good, bad};
 ghost use Rattle.theory.specs.Tally.{tally};
@@ -13,7 +12,8 @@ ghost use Rattle.theory.specs.Join.{flat};
 ghost use Rattle.writing.specs.Put.{putField};
 ghost use Rattle.writing.specs.Laid.{Laid};
 ghost use Rattle.hgv.specs.Layout.{headerLength, lineLength, footerLength, linesMost, linesIn, lengthHolds};
-ghost use Rattle.hgc.specs.Confirmation.{headLength, answerLength, confirmationLength, zeros, outcome, names, counts, answer, said, answers, foot, confirmation};
+ghost use Rattle.hgc.specs.Confirmation.{headLength, answerLength, confirmationLength, zeros, outcome, names, counts, answer, said, answers, foot};
+ghost use Rattle.hgc.specs.Promises.{Write, LengthFor};
 
 const HEADER: usize = 110;
 
@@ -109,7 +109,8 @@ fn answer_line(hgc: &mut [u8], from: usize, line: &[u8], verdict: u8) -> usize
 
 // The answers behind the header; the position behind them.
 fn put_answers(hgc: &mut [u8], lines: &[u8], verdicts: &[u8]) -> usize
-    requires { ⌜ (length (now verdicts) * lineLength ≤ length (now lines)) × (headLength + tally bad (now verdicts) * answerLength ≤ length (now hgc)) ⌝ }
+    requires lined { ⌜ length (now verdicts) * lineLength ≤ length (now lines) ⌝ }
+    requires room { ⌜ headLength + tally bad (now verdicts) * answerLength ≤ length (now hgc) ⌝ }
     ensures { λ r. ⌜ Laid 111 r (flat (answers (now (verdicts .entry)) (chop lineLength (length (now (verdicts .entry))) (now (lines .entry))))) (now (hgc .entry)) (now (hgc .exit)) ⌝ }
 {
     let mut behind = HEADER + 1;
@@ -140,8 +141,13 @@ pub fn write(
     taken: u64,
     rejected: u64,
 )
-    requires { ⌜ (length (now reception) ≡ 14) × ((lengthHolds (now hgv) ≡ true) × ((length (now verdicts) ≡ linesIn (now hgv)) × ((taken ≡ tally good (now verdicts)) × ((rejected ≡ tally bad (now verdicts)) × (confirmationLength rejected ≤ length (now hgc)))))) ⌝ }
-    ensures { λ _. ⌜ now (hgc .exit) ≡ confirmation (now (reception .entry)) (now (hgv .entry)) (now (verdicts .entry)) ++ drop (length (confirmation (now (reception .entry)) (now (hgv .entry)) (now (verdicts .entry)))) (now (hgc .entry)) ⌝ }
+    requires dated { ⌜ length (now reception) ≡ 14 ⌝ }
+    requires sized { ⌜ lengthHolds (now hgv) ≡ true ⌝ }
+    requires judged { ⌜ length (now verdicts) ≡ linesIn (now hgv) ⌝ }
+    requires counted { ⌜ taken ≡ tally good (now verdicts) ⌝ }
+    requires answered { ⌜ rejected ≡ tally bad (now verdicts) ⌝ }
+    requires room { ⌜ confirmationLength rejected ≤ length (now hgc) ⌝ }
+    ensures { λ _. ⌜ Write (now (hgc .entry)) (now (reception .entry)) (now (hgv .entry)) (now (verdicts .entry)) taken rejected (now (hgc .exit)) ⌝ }
 {
     put_names(hgc, reception, hgv);
     put_counts(hgc, taken, rejected);
@@ -152,7 +158,7 @@ pub fn write(
 // How long the confirmation is.
 pub fn length_for(rejected: usize) -> usize
     requires { ⌜ rejected ≤ linesMost ⌝ }
-    ensures { λ r. ⌜ r ≡ confirmationLength rejected ⌝ }
+    ensures { λ r. ⌜ LengthFor rejected r ⌝ }
 {
     HEADER + rejected * LINE + FOOTER
 }

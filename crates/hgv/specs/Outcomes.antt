@@ -4,13 +4,13 @@ use mathlib.Core.Bool.{Bool}
 use mathlib.Core.List.{List}
 use Prim.Native.Nat.{ℕ}
 use Rattle.theory.specs.Outcome.{one-outcome}
-use Rattle.hgv.specs.Layout.{linesIn, lengthHolds, body}
+use Rattle.hgv.specs.Promises.{LinesIn, HasLength, Body}
 
-pub length-one : (h : List ℕ) (r s : Bool) → r ≡ lengthHolds h → s ≡ lengthHolds h → r ≡ s
-length-one h r s = one-outcome
+pub lines-in-one : (h : List ℕ) (r s : ℕ) → LinesIn h r → LinesIn h s → r ≡ s
+lines-in-one h r s = one-outcome
 
-pub lines-one : (h : List ℕ) (r s : ℕ) → r ≡ linesIn h → s ≡ linesIn h → r ≡ s
-lines-one h r s = one-outcome
+pub has-length-one : (h : List ℕ) (r s : Bool) → HasLength h r → HasLength h s → r ≡ s
+has-length-one h r s = one-outcome
 
-pub body-one : (h r s : List ℕ) → r ≡ body h → s ≡ body h → r ≡ s
+pub body-one : (h r s : List ℕ) → Body h r → Body h s → r ≡ s
 body-one h r s = one-outcome

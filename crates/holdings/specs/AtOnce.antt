@@ -34,16 +34,17 @@ places-tell R lines vs m found e =
 unfoldable pub atOnce : ℕ → ℕ → ℕ
 atOnce slots lines = cond (leb slots slotsMost) (cond (leb lines slotsMost) lines slotsMost) 0
 
-pub record AtOnce (slots lines k : ℕ) : Type 0 where
+-- what such a number keeps to
+pub record Bounded (slots lines k : ℕ) : Type 0 where
   pub within : k ≤ lines
   pub most : k ≤ slotsMost
   pub few : 0 < k → slots ≤ slotsMost
 
-pub at-once : (slots lines k : ℕ) → k ≡ atOnce slots lines → AtOnce slots lines k
+pub at-once : (slots lines k : ℕ) → k ≡ atOnce slots lines → Bounded slots lines k
 unfolding atOnce
 at-once slots lines k e = rw e (go (leb slots slotsMost) refl (leb lines slotsMost) refl)
   where
-    go : (s : Bool) → leb slots slotsMost ≡ s → (l : Bool) → leb lines slotsMost ≡ l → AtOnce slots lines (cond s (cond l lines slotsMost) 0)
+    go : (s : Bool) → leb slots slotsMost ≡ s → (l : Bool) → leb lines slotsMost ≡ l → Bounded slots lines (cond s (cond l lines slotsMost) 0)
     go true p true q = record { within = omega arith; most = leb-true lines slotsMost q; few = λ h. leb-true slots slotsMost p }
     go true p false q = record { within = omega (arith, leb-false lines slotsMost q); most = omega arith; few = λ h. leb-true slots slotsMost p }
     go false p l q = record { within = omega arith; most = omega arith; few = λ h. absurd (omega arith) }

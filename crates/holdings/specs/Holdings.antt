@@ -4,10 +4,18 @@ use Prim.Native.Nat.{ℕ}
 use mathlib.Core.Bool.{Bool, true, false, not, cond}
 use mathlib.Core.List.{List, [], _∷_, _++_, map}
 use lib.Dec.{eqb}
+use lib.ListN.{length}
+use Rattle.theory.specs.Parts.{chop}
 use Rattle.theory.specs.Keep.{sift}
+use Rattle.theory.specs.Pick.{good, pick}
 use Rattle.columns.specs.Columns.{panOf}
 use Rattle.lines.specs.End.{recordOf}
+use Rattle.hgv.specs.Layout.{lineLength}
 use Rattle.register.specs.Search.{holdsPan, ofActor}
+
+-- the lines that were taken: those whose verdict is 0
+abbrev pub takenIn : List ℕ → List ℕ → List (List ℕ)
+takenIn vs lines = pick good vs (chop lineLength (length vs) lines)
 
 -- x in place of r where the test holds, else r, and what is made of those behind it
 unfoldable pub storedOn : Bool → List ℕ → List ℕ → List (List ℕ) → List (List ℕ) → List (List ℕ)

@@ -3,7 +3,7 @@
 use mathlib.Core.Path.{_≡_, refl, sym, ap, ap₂, _∙_}
 use mathlib.Core.Bool.{Bool, true, false, not, cond}
 use mathlib.Core.List.{List, [], _∷_, _++_, map}
-use Prim.Native.Nat.{ℕ, suc, _+_}
+use Prim.Native.Nat.{ℕ, suc, _+_, _≤_}
 use lib.ListN.{length, length-append, length-map}
 use Rattle.theory.specs.Each.{Each, none, more}
 use Rattle.theory.specs.Walk.{some}
@@ -12,13 +12,20 @@ use Rattle.theory.specs.Keep.{sift, length-onto}
 use Rattle.theory.specs.Distinct.{distinct}
 use Rattle.columns.specs.Columns.{panOf}
 use Rattle.lines.specs.End.{recordOf}
+use Rattle.register.specs.Register.{slotsOf}
 use Rattle.register.specs.Search.{holdsPan}
-use Rattle.holdings.specs.Holdings.{storedAll, others, replacedAll, isFull, holdings}
+use Rattle.holdings.specs.Holdings.{takenIn, storedAll, others, replacedAll, isFull, holdings}
 use Rattle.holdings.specs.Storing.{isNew, length-all}
 
 -- full: the others' and the lines; incremental: those held and the lines that are new
 unfoldable pub usedAfter : ℕ → List ℕ → List (List ℕ) → List (List ℕ) → ℕ
 usedAfter mode who R ls = cond (isFull mode) (length (others who R) + length ls) (length R + length (sift (isNew R) ls))
+
+-- r counts the lines taken that are new to the slots
+abbrev pub CountsNew : List ℕ → List ℕ → List ℕ → ℕ → Type 0
+CountsNew held lines vs r =
+    (r ≡ length (sift (isNew (slotsOf held)) (takenIn vs lines)))
+    × (r ≤ length vs)
 
 module _ (reception : List ℕ) where
   record-pans : {ls : List (List ℕ)} → Each (λ l. panOf (recordOf reception l) ≡ panOf l) ls → map panOf (map (recordOf reception) ls) ≡ map panOf ls

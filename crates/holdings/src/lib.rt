@@ -3,17 +3,16 @@ ghost use mathlib.Core.Path.{_≡_};
 ghost use mathlib.Core.Bool.{true, _&&_};
 ghost use Prim.Native.Nat.{_*_, _≤_, _<_};
 ghost use lib.ListN.{length, getD};
-ghost use Rattle.theory.specs.Parts.{chop};
 ghost use Rattle.theory.specs.Count.{bump};
-ghost use Rattle.theory.specs.Keep.{sift};
-ghost use Rattle.theory.specs.Pick.{good, pick};
+ghost use Rattle.theory.specs.Pick.{good};
 ghost use Rattle.hgv.specs.Layout.{lineLength};
 ghost use Rattle.columns.specs.Columns.{panOf};
-ghost use Rattle.register.specs.Register.{slotsMost, slotsIn, slotsOf, records};
+ghost use Rattle.register.specs.Register.{slotsMost, slotsIn, slotsOf};
 ghost use Rattle.register.specs.Search.{placeOf};
 ghost use Rattle.holdings.specs.Storing.{isNew};
-ghost use Rattle.holdings.specs.Room.{usedAfter};
-ghost use Rattle.holdings.specs.AtOnce.{placesIn, Told, atOnce};
+ghost use Rattle.holdings.specs.Room.{CountsNew};
+ghost use Rattle.holdings.specs.AtOnce.{Told};
+ghost use Rattle.holdings.specs.Promises.{AtOnce, Places, PlaceAt, UsedAfter};
 
 const FULL: u64 = 2;
 
@@ -25,7 +24,7 @@ const SLOTS: usize = 8192;
 
 // Of how many lines the places are found at once.
 pub fn at_once(slots: usize, lines: usize) -> usize
-    ensures { λ r. ⌜ r ≡ atOnce slots lines ⌝ }
+    ensures { λ r. ⌜ AtOnce slots lines r ⌝ }
 {
     if !(slots <= SLOTS) {
         return 0;
@@ -35,8 +34,10 @@ pub fn at_once(slots: usize, lines: usize) -> usize
 
 // Where the PANs of the taken lines stand among the slots, of as many lines as `found` has room for.
 pub fn places(held: &[u8], lines: &[u8], verdicts: &[u8], found: &mut [u16])
-    requires { ⌜ (length (now verdicts) * lineLength ≤ length (now lines)) × (length (now found) ≤ length (now verdicts)) × (0 < length (now found) → slotsIn (now held) ≤ slotsMost) ⌝ }
-    ensures { λ _. ⌜ now (found .exit) ≡ placesIn (slotsOf (now (held .entry))) (now (lines .entry)) (now (verdicts .entry)) (length (now (found .entry))) ⌝ }
+    requires lined { ⌜ length (now verdicts) * lineLength ≤ length (now lines) ⌝ }
+    requires judged { ⌜ length (now found) ≤ length (now verdicts) ⌝ }
+    requires few { ⌜ (0 < length (now found) → slotsIn (now held) ≤ slotsMost) ⌝ }
+    ensures { λ _. ⌜ Places (now (held .entry)) (now (lines .entry)) (now (verdicts .entry)) (now (found .entry)) (now (found .exit)) ⌝ }
 {
     let n = held.len() / SLOT;
     ordering::places(
@@ -61,7 +62,7 @@ fn wide(x: u16) -> usize
 // The place that was found for the line i.
 pub fn place_at(found: &[u16], i: usize) -> usize
     requires { ⌜ i < length (now found) ⌝ }
-    ensures { λ r. ⌜ r ≡ getD (now (found .entry)) i 0 ⌝ }
+    ensures { λ r. ⌜ PlaceAt (now (found .entry)) i r ⌝ }
 {
     wide(found[i])
 }
@@ -93,8 +94,9 @@ fn count_line(held: &[u8], l: &[u8], verdict: u8, found: &[u16], i: usize) -> us
 
 // How many of the taken lines are new to the slots.
 fn count_lines(held: &[u8], lines: &[u8], verdicts: &[u8], found: &[u16]) -> usize
-    requires { ⌜ (length (now verdicts) * lineLength ≤ length (now lines)) × Told (slotsOf (now held)) (now lines) (now verdicts) (now found) ⌝ }
-    ensures { λ r. ⌜ (r ≡ length (sift (isNew (slotsOf (now (held .entry)))) (pick good (now (verdicts .entry)) (chop lineLength (length (now (verdicts .entry))) (now (lines .entry)))))) × (r ≤ length (now (verdicts .entry))) ⌝ }
+    requires lined { ⌜ length (now verdicts) * lineLength ≤ length (now lines) ⌝ }
+    requires told { ⌜ Told (slotsOf (now held)) (now lines) (now verdicts) (now found) ⌝ }
+    ensures { λ r. ⌜ CountsNew (now (held .entry)) (now (lines .entry)) (now (verdicts .entry)) r ⌝ }
 {
     let mut k: usize = 0;
     let mut i: usize = 0;
@@ -106,8 +108,10 @@ fn count_lines(held: &[u8], lines: &[u8], verdicts: &[u8], found: &[u16]) -> usi
 }
 
 fn count_placed(held: &[u8], lines: &[u8], verdicts: &[u8], found: &mut [u16]) -> usize
-    requires { ⌜ (length (now verdicts) * lineLength ≤ length (now lines)) × (length (now found) ≤ length (now verdicts)) × (0 < length (now found) → slotsIn (now held) ≤ slotsMost) ⌝ }
-    ensures { λ r. ⌜ (r ≡ length (sift (isNew (slotsOf (now (held .entry)))) (pick good (now (verdicts .entry)) (chop lineLength (length (now (verdicts .entry))) (now (lines .entry)))))) × (r ≤ length (now (verdicts .entry))) ⌝ }
+    requires lined { ⌜ length (now verdicts) * lineLength ≤ length (now lines) ⌝ }
+    requires judged { ⌜ length (now found) ≤ length (now verdicts) ⌝ }
+    requires few { ⌜ (0 < length (now found) → slotsIn (now held) ≤ slotsMost) ⌝ }
+    ensures { λ r. ⌜ CountsNew (now (held .entry)) (now (lines .entry)) (now (verdicts .entry)) r ⌝ }
 {
     places(held, lines, verdicts, found);
     count_lines(held, lines, verdicts, found)
@@ -115,7 +119,7 @@ fn count_placed(held: &[u8], lines: &[u8], verdicts: &[u8], found: &mut [u16]) -
 
 fn count_new(held: &[u8], lines: &[u8], verdicts: &[u8]) -> usize
     requires { ⌜ length (now verdicts) * lineLength ≤ length (now lines) ⌝ }
-    ensures { λ r. ⌜ (r ≡ length (sift (isNew (slotsOf (now (held .entry)))) (pick good (now (verdicts .entry)) (chop lineLength (length (now (verdicts .entry))) (now (lines .entry)))))) × (r ≤ length (now (verdicts .entry))) ⌝ }
+    ensures { λ r. ⌜ CountsNew (now (held .entry)) (now (lines .entry)) (now (verdicts .entry)) r ⌝ }
 {
     let k = at_once(held.len() / SLOT, verdicts.len());
     let mut found = [0u16; SLOTS];
@@ -125,7 +129,7 @@ fn count_new(held: &[u8], lines: &[u8], verdicts: &[u8]) -> usize
 // How many slots are used when the taken lines have been applied.
 pub fn used_after(mode: u64, register: &[u8], who: &[u8], lines: &[u8], verdicts: &[u8]) -> usize
     requires { ⌜ length (now verdicts) * lineLength ≤ length (now lines) ⌝ }
-    ensures { λ r. ⌜ r ≡ usedAfter mode (now (who .entry)) (records (now (register .entry))) (pick good (now (verdicts .entry)) (chop lineLength (length (now (verdicts .entry))) (now (lines .entry)))) ⌝ }
+    ensures { λ r. ⌜ UsedAfter mode (now (register .entry)) (now (who .entry)) (now (lines .entry)) (now (verdicts .entry)) r ⌝ }
 {
     let held = register::used_part(register);
     let used = held.len() / SLOT;

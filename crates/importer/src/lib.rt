@@ -7,8 +7,8 @@ ghost use Rattle.theory.specs.Tally.{tally};
 ghost use Rattle.stops.specs.Clear.{Clear};
 ghost use Rattle.hgv.specs.Layout.{linesIn};
 ghost use Rattle.importer.specs.Import.{judged, roomStops, refusal, success, written, told};
-ghost use Rattle.importer.specs.Outcomes.{Outcome};
 ghost use Rattle.importer.specs.Accepted.{Accepted};
+ghost use Rattle.importer.specs.Promises.{Import};
 
 const SLOT: usize = 128;
 
@@ -44,7 +44,9 @@ fn room_stop(
     verdicts: &[u8],
     rejected: u64,
 ) -> u64
-    requires { ⌜ Clear mode (now reception) (now register) (now rows) (now hgv) × ((now verdicts ≡ judged (now register) (now rows) (now hgv)) × (rejected ≡ tally bad (now verdicts))) ⌝ }
+    requires clear { ⌜ Clear mode (now reception) (now register) (now rows) (now hgv) ⌝ }
+    requires verdict { ⌜ now verdicts ≡ judged (now register) (now rows) (now hgv) ⌝ }
+    requires counted { ⌜ rejected ≡ tally bad (now verdicts) ⌝ }
     ensures { λ r. ⌜ r ≡ first (roomStops mode (now (reception .entry)) (now (register .entry)) (now (rows .entry)) (now (hgv .entry)) (now (hgc .entry))) ⌝ }
 {
     let used = holdings::used_after(
@@ -72,7 +74,9 @@ fn carry_out(
     rejected: u64,
 ) -> Imported
     requires { ⌜ Accepted mode (now reception) (now register) (now rows) (now hgv) (now hgc) (now verdicts) taken rejected ⌝ }
-    ensures { λ r. ⌜ (r ≡ success (now (reception .entry)) (now (register .entry)) (now (rows .entry)) (now (hgv .entry))) × ((now (register .exit) ≡ written mode (now (reception .entry)) (now (register .entry)) (now (rows .entry)) (now (hgv .entry))) × (now (hgc .exit) ≡ told (now (reception .entry)) (now (register .entry)) (now (rows .entry)) (now (hgv .entry)) (now (hgc .entry)))) ⌝ }
+    ensures answered { λ r. ⌜ r ≡ success (now (reception .entry)) (now (register .entry)) (now (rows .entry)) (now (hgv .entry)) ⌝ }
+    ensures stored { λ _. ⌜ now (register .exit) ≡ written mode (now (reception .entry)) (now (register .entry)) (now (rows .entry)) (now (hgv .entry)) ⌝ }
+    ensures confirmed { λ _. ⌜ now (hgc .exit) ≡ told (now (reception .entry)) (now (register .entry)) (now (rows .entry)) (now (hgv .entry)) (now (hgc .entry)) ⌝ }
 {
     applying::apply(
         mode,
@@ -102,8 +106,9 @@ fn import_judged(
     hgc: &mut [u8],
     verdicts: &[u8],
 ) -> Imported
-    requires { ⌜ Clear mode (now reception) (now register) (now rows) (now hgv) × (now verdicts ≡ judged (now register) (now rows) (now hgv)) ⌝ }
-    ensures { λ r. ⌜ Outcome mode (now (reception .entry)) (now (register .entry)) (now (rows .entry)) (now (hgv .entry)) (now (hgc .entry)) r (now (register .exit)) (now (hgc .exit)) ⌝ }
+    requires clear { ⌜ Clear mode (now reception) (now register) (now rows) (now hgv) ⌝ }
+    requires verdict { ⌜ now verdicts ≡ judged (now register) (now rows) (now hgv) ⌝ }
+    ensures { λ r. ⌜ Import mode (now (reception .entry)) (now (register .entry)) (now (rows .entry)) (now (hgv .entry)) (now (hgc .entry)) r (now (register .exit)) (now (hgc .exit)) ⌝ }
 {
     let taken = verdicts::count_taken(verdicts);
     let rejected = verdicts.len() as u64 - taken;
@@ -144,7 +149,7 @@ fn import_lines(
     verdicts: &mut [u8],
 ) -> Imported
     requires { ⌜ Clear mode (now reception) (now register) (now rows) (now hgv) × (length (now verdicts) ≡ linesIn (now hgv)) ⌝ }
-    ensures { λ r. ⌜ Outcome mode (now (reception .entry)) (now (register .entry)) (now (rows .entry)) (now (hgv .entry)) (now (hgc .entry)) r (now (register .exit)) (now (hgc .exit)) ⌝ }
+    ensures { λ r. ⌜ Import mode (now (reception .entry)) (now (register .entry)) (now (rows .entry)) (now (hgv .entry)) (now (hgc .entry)) r (now (register .exit)) (now (hgc .exit)) ⌝ }
 {
     verdicts::judge(hgv, rows, register, verdicts);
     import_judged(mode, reception, register, rows, hgv, hgc, verdicts)
@@ -158,7 +163,7 @@ pub fn import(
     hgv: &[u8],
     hgc: &mut [u8],
 ) -> Imported
-    ensures { λ r. ⌜ Outcome mode (now (reception .entry)) (now (register .entry)) (now (rows .entry)) (now (hgv .entry)) (now (hgc .entry)) r (now (register .exit)) (now (hgc .exit)) ⌝ }
+    ensures { λ r. ⌜ Import mode (now (reception .entry)) (now (register .entry)) (now (rows .entry)) (now (hgv .entry)) (now (hgc .entry)) r (now (register .exit)) (now (hgc .exit)) ⌝ }
 {
     let form = stops::form_stop(mode, reception, register, rows, hgv);
     if form != 0 {

@@ -5,13 +5,13 @@ use mathlib.Core.List.{List}
 use Prim.Native.Nat.{ℕ}
 use Rattle.theory.specs.Outcome.{one-outcome}
 use Rattle.issuers.specs.declared.Issued.{Issued}
-use Rattle.issuers.specs.Rows.{rows, known, issuedOf}
+use Rattle.issuers.specs.Promises.{AreRows, IsKnown, IssuedTo}
 
-pub rows-one : (b : List ℕ) (r s : Bool) → r ≡ rows b → s ≡ rows b → r ≡ s
-rows-one b r s = one-outcome
+pub are-rows-one : (b : List ℕ) (r s : Bool) → AreRows b r → AreRows b s → r ≡ s
+are-rows-one b r s = one-outcome
 
-pub known-one : (b sender : List ℕ) (r s : Bool) → r ≡ known b sender → s ≡ known b sender → r ≡ s
-known-one b sender r s = one-outcome
+pub is-known-one : (b sender : List ℕ) (r s : Bool) → IsKnown b sender r → IsKnown b sender s → r ≡ s
+is-known-one b sender r s = one-outcome
 
-pub issued-one : (b sender pan : List ℕ) (r s : Issued) → r ≡ issuedOf b sender pan → s ≡ issuedOf b sender pan → r ≡ s
-issued-one b sender pan r s = one-outcome
+pub issued-to-one : (b sender pan : List ℕ) (r s : Issued) → IssuedTo b sender pan r → IssuedTo b sender pan s → r ≡ s
+issued-to-one b sender pan r s = one-outcome

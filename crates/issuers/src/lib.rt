@@ -3,11 +3,12 @@
 ghost use mathlib.Core.Path.{_≡_};
 ghost use mathlib.Core.Bool.{_&&_};
 ghost use lib.Dec.{eqb};
-ghost use Prim.Native.Nat.{_+_, _*_, _≤_, _<_};
+ghost use Prim.Native.Nat.{_*_, _≤_};
 ghost use lib.ListN.{length, take};
 ghost use Rattle.theory.specs.Parts.{chop};
 ghost use Rattle.theory.specs.Walk.{each};
-ghost use Rattle.issuers.specs.Rows.{row, rows, sentBy, beginning, fitting, known, issuedOf, panLength};
+ghost use Rattle.issuers.specs.Rows.{row, sentBy, beginning, panLength};
+ghost use Rattle.issuers.specs.Promises.{AreRows, IsKnown, IssuedTo};
 
 // What a PAN finds among the sender's rows: one whose BIN ID digits begin it (L3), and such a one that has its number
 // of digits (L4).
@@ -72,7 +73,7 @@ fn each_row(b: &[u8], n: usize) -> bool
 }
 
 pub fn are_rows(b: &[u8]) -> bool
-    ensures { λ r. ⌜ r ≡ rows (now (b .entry)) ⌝ }
+    ensures { λ r. ⌜ AreRows (now (b .entry)) r ⌝ }
 {
     let n = b.len() / ROW;
     (b.len() % ROW == 0) & (n <= ROWS) & each_row(b, n)
@@ -86,7 +87,7 @@ fn is_sent_by(sender: &[u8], r: &[u8]) -> bool
 
 // Does a row have the sender.
 pub fn is_known(b: &[u8], sender: &[u8]) -> bool
-    ensures { λ r. ⌜ r ≡ known (now (b .entry)) (now (sender .entry)) ⌝ }
+    ensures { λ r. ⌜ IsKnown (now (b .entry)) (now (sender .entry)) r ⌝ }
 {
     let n = b.len() / ROW;
     let mut found = false;
@@ -125,7 +126,7 @@ fn is_fitting(r: &[u8], begins: bool, digits: usize) -> bool
 }
 
 pub fn issued_to(b: &[u8], sender: &[u8], pan: &[u8]) -> Issued
-    ensures { λ r. ⌜ r ≡ issuedOf (now (b .entry)) (now (sender .entry)) (now (pan .entry)) ⌝ }
+    ensures { λ r. ⌜ IssuedTo (now (b .entry)) (now (sender .entry)) (now (pan .entry)) r ⌝ }
 {
     let n = b.len() / ROW;
     let digits = characters::digits_in(pan);

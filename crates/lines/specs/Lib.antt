@@ -4,4 +4,5 @@ pub mod Coverage
 pub mod End
 pub mod Ends
 pub mod Starred
+pub mod Promises
 pub mod Outcomes

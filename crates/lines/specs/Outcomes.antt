@@ -4,10 +4,10 @@ use mathlib.Core.Bool.{Bool}
 use mathlib.Core.List.{List}
 use Prim.Native.Nat.{ℕ}
 use Rattle.theory.specs.Outcome.{one-outcome}
-use Rattle.lines.specs.Rules.{lineFault, recordHolds}
+use Rattle.lines.specs.Promises.{LineFault, IsRecord}
 
-pub fault-one : (rows sender l : List ℕ) (r s : ℕ) → r ≡ lineFault rows sender l → s ≡ lineFault rows sender l → r ≡ s
-fault-one rows sender l r s = one-outcome
+pub line-fault-one : (l sender rows : List ℕ) (r s : ℕ) → LineFault l sender rows r → LineFault l sender rows s → r ≡ s
+line-fault-one l sender rows r s = one-outcome
 
-pub record-one : (l : List ℕ) (r s : Bool) → r ≡ recordHolds l → s ≡ recordHolds l → r ≡ s
-record-one l r s = one-outcome
+pub is-record-one : (l : List ℕ) (r s : Bool) → IsRecord l r → IsRecord l s → r ≡ s
+is-record-one l r s = one-outcome

@@ -1,7 +1,8 @@
 // The rules of a line (L1 to L10) and of a record. A line comes as a part of the lent body, or of the register; one of
 // any length is judged.
 ghost use mathlib.Core.Path.{_≡_};
-ghost use Rattle.lines.specs.Rules.{stateless, L1, L2, L5, L6, L7, L8, L9, lineFault, recordHolds};
+ghost use Rattle.lines.specs.Rules.{stateless, L1, L2, L5, L6, L7, L8, L9};
+ghost use Rattle.lines.specs.Promises.{LineFault, IsRecord};
 
 fn holds_l6(l: &[u8]) -> bool
     ensures { λ r. ⌜ r ≡ L6 (now (l .entry)) ⌝ }
@@ -66,7 +67,7 @@ fn is_stateless(l: &[u8]) -> bool
 // The reason of the first rule, L1 to L10, that a line of this sender breaks; 0 where it breaks none. From the last rule
 // to the first, so that the first stands.
 pub fn line_fault(l: &[u8], sender: &[u8], rows: &[u8]) -> u64
-    ensures { λ r. ⌜ r ≡ lineFault (now (rows .entry)) (now (sender .entry)) (now (l .entry)) ⌝ }
+    ensures { λ r. ⌜ LineFault (now (l .entry)) (now (sender .entry)) (now (rows .entry)) r ⌝ }
 {
     let issued = issuers::issued_to(
         rows,
@@ -90,7 +91,7 @@ pub fn line_fault(l: &[u8], sender: &[u8], rows: &[u8]) -> u64
 
 // Six-digit actor, and L1, L5 to L10 hold.
 pub fn is_record(l: &[u8]) -> bool
-    ensures { λ r. ⌜ r ≡ recordHolds (now (l .entry)) ⌝ }
+    ensures { λ r. ⌜ IsRecord (now (l .entry)) r ⌝ }
 {
     fields::is_digits(texts::field(l, columns::ACTOR_FROM, columns::ACTOR_TO), 6)
         & holds_l1(l)

@@ -8,7 +8,8 @@ ghost use Rattle.theory.specs.Count.{bump};
 ghost use Rattle.theory.specs.Place.{place};
 ghost use Rattle.lines.specs.End.{active};
 ghost use Rattle.register.specs.Register.{slotsOf};
-ghost use Rattle.lookups.specs.Lookup.{panNumber, panPlace, panSlot, seen, plateNumber, platePlace, plateSlot};
+ghost use Rattle.lookups.specs.Lookup.{panNumber, seen, plateNumber};
+ghost use Rattle.lookups.specs.Promises.{PlaceByPan, ByPan, PlaceByPlate, ByPlate};
 
 const SLOT: usize = 128;
 
@@ -77,13 +78,13 @@ fn pan_number(b: &[u8], key: &[u8]) -> u64
 
 // The place of the record with this PAN, or the number of records.
 pub fn place_by_pan(b: &[u8], key: &[u8]) -> usize
-    ensures { λ r. ⌜ r ≡ panPlace (now (b .entry)) (now (key .entry)) ⌝ }
+    ensures { λ r. ⌜ PlaceByPan (now (b .entry)) (now (key .entry)) r ⌝ }
 {
     register::find(register::used_part(b), key)
 }
 
 pub fn by_pan<'a>(b: &'a [u8], key: &[u8], number: &mut u64) -> &'a [u8]
-    ensures { λ r. ⌜ (now (number .exit) ≡ panNumber (now (b .entry)) (now (key .entry))) × (now r ≡ panSlot (now (b .entry)) (now (key .entry))) ⌝ }
+    ensures { λ r. ⌜ ByPan (now (b .entry)) (now (key .entry)) (now (number .entry)) (now r) (now (number .exit)) ⌝ }
 {
     let answer = pan_number(b, key);
     *number = answer;
@@ -106,13 +107,13 @@ fn plate_number(b: &[u8], p: &[u8], n: &[u8], t: &[u8]) -> u64
 
 // The place of the first record that is seen, or the number of records.
 pub fn place_by_plate(b: &[u8], p: &[u8], n: &[u8], t: &[u8]) -> usize
-    ensures { λ r. ⌜ r ≡ platePlace (now (b .entry)) (now (p .entry)) (now (n .entry)) (now (t .entry)) ⌝ }
+    ensures { λ r. ⌜ PlaceByPlate (now (b .entry)) (now (p .entry)) (now (n .entry)) (now (t .entry)) r ⌝ }
 {
     find_seen(register::used_part(b), p, n, t)
 }
 
 pub fn by_plate<'a>(b: &'a [u8], p: &[u8], n: &[u8], t: &[u8], number: &mut u64) -> &'a [u8]
-    ensures { λ r. ⌜ (now (number .exit) ≡ plateNumber (now (b .entry)) (now (p .entry)) (now (n .entry)) (now (t .entry))) × (now r ≡ plateSlot (now (b .entry)) (now (p .entry)) (now (n .entry)) (now (t .entry))) ⌝ }
+    ensures { λ r. ⌜ ByPlate (now (b .entry)) (now (p .entry)) (now (n .entry)) (now (t .entry)) (now (number .entry)) (now r) (now (number .exit)) ⌝ }
 {
     let answer = plate_number(b, p, n, t);
     *number = answer;

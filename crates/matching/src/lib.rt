@@ -17,8 +17,9 @@ ghost use Rattle.hgv.specs.Layout.{lineLength, linesIn};
 ghost use Rattle.hgc.specs.Confirmation.{answerLength};
 ghost use Rattle.pairing.specs.Pairing.{firsts};
 ghost use Rattle.pairing.specs.Backwards.{isLast, waiting, paired};
-ghost use Rattle.receipts.specs.Receipt.{takenOf, rejectedOf, textsOf, copiesOf, copiesHold, lineHolds, linesHold};
+ghost use Rattle.receipts.specs.Receipt.{takenOf, rejectedOf, textsOf, copiesOf, copiesHold, lineHolds};
 ghost use Rattle.matching.specs.Texts.{textsIn};
+ghost use Rattle.matching.specs.Promises.{LinesHold};
 
 // Have two lines, of either file, one text. Nearly all lines differ in the PAN, and few bytes behind it tell them apart.
 fn have_same_text(a: &[u8], b: &[u8]) -> bool
@@ -58,7 +59,8 @@ fn mark(answers: &[u8], k: usize, l: &[u8]) -> u8
 // many of the n copies wait at the end.
 fn pair(lines: &[u8], answers: &[u8], n: usize, marks: &mut [u8]) -> usize
     requires { ⌜ (length (now marks) * lineLength ≤ length (now lines)) × (n * answerLength ≤ length (now answers)) ⌝ }
-    ensures { λ r. ⌜ (r ≡ waiting (textsIn lineLength (length (now (marks .entry))) (now (lines .entry))) (textsIn answerLength n (now (answers .entry)))) × (now (marks .exit) ≡ paired (textsIn lineLength (length (now (marks .entry))) (now (lines .entry))) (textsIn answerLength n (now (answers .entry)))) ⌝ }
+    ensures left { λ r. ⌜ r ≡ waiting (textsIn lineLength (length (now (marks .entry))) (now (lines .entry))) (textsIn answerLength n (now (answers .entry))) ⌝ }
+    ensures marked { λ _. ⌜ now (marks .exit) ≡ paired (textsIn lineLength (length (now (marks .entry))) (now (lines .entry))) (textsIn answerLength n (now (answers .entry))) ⌝ }
 {
     let mut k = n;
     let mut i = marks.len();
@@ -129,7 +131,8 @@ fn has_counts(hgc: &[u8], taken: u64, rejected: usize) -> bool
 // Are the HGC's copies the lines left, in order. `marks` has 0 for each line that was taken, where they are.
 fn copies_hold(hgv: &[u8], hgc: &[u8], marks: &mut [u8]) -> bool
     requires { ⌜ length (now marks) ≡ linesIn (now hgv) ⌝ }
-    ensures { λ r. ⌜ (r ≡ copiesHold (now (hgv .entry)) (now (hgc .entry))) × (now (marks .exit) ≡ paired (textsOf (now (hgv .entry))) (copiesOf (now (hgc .entry)))) ⌝ }
+    ensures holding { λ r. ⌜ r ≡ copiesHold (now (hgv .entry)) (now (hgc .entry)) ⌝ }
+    ensures marked { λ _. ⌜ now (marks .exit) ≡ paired (textsOf (now (hgv .entry))) (copiesOf (now (hgc .entry))) ⌝ }
 {
     let lines = hgv::body(hgv);
     let n = receipts::answers_in(hgc);
@@ -140,7 +143,7 @@ fn copies_hold(hgv: &[u8], hgc: &[u8], marks: &mut [u8]) -> bool
 // Do the HGC's lines hold beside the HGV's. `marks` has 0 for each line that was taken, where they do.
 pub fn lines_hold(hgv: &[u8], hgc: &[u8], marks: &mut [u8]) -> bool
     requires { ⌜ length (now marks) ≡ linesIn (now hgv) ⌝ }
-    ensures { λ r. ⌜ (r ≡ linesHold (now (hgv .entry)) (now (hgc .entry))) × (now (marks .exit) ≡ paired (textsOf (now (hgv .entry))) (copiesOf (now (hgc .entry)))) ⌝ }
+    ensures { λ r. ⌜ LinesHold (now (hgv .entry)) (now (hgc .entry)) (now (marks .entry)) r (now (marks .exit)) ⌝ }
 {
     let copied = copies_hold(hgv, hgc, marks);
     let lines = hgv::body(hgv);

@@ -3,12 +3,11 @@ use mathlib.Core.Path.{_≡_}
 use mathlib.Core.List.{List}
 use Prim.Native.Nat.{ℕ}
 use Rattle.theory.specs.Outcome.{one-outcome}
-use Rattle.writing.specs.Put.{putField}
-use Rattle.numbers.specs.Number.{number, decimal}
+use Rattle.numbers.specs.Promises.{Number, PutNumber}
 
-pub number-one : (f : List ℕ) (r s : ℕ) → r ≡ number f → s ≡ number f → r ≡ s
+pub number-one : (f : List ℕ) (r s : ℕ) → Number f r → Number f s → r ≡ s
 number-one f r s = one-outcome
 
--- the text after put_number
-pub put-one : (from width v : ℕ) (text r s : List ℕ) → r ≡ putField from (decimal width v) text → s ≡ putField from (decimal width v) text → r ≡ s
-put-one from width v text r s = one-outcome
+pub put-number-one : (text : List ℕ) (from width v : ℕ) (r s : List ℕ)
+    → PutNumber text from width v r → PutNumber text from width v s → r ≡ s
+put-number-one text from width v r s = one-outcome

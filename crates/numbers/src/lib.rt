@@ -2,8 +2,8 @@
 ghost use mathlib.Core.Path.{_≡_};
 ghost use Prim.Native.Nat.{_+_, _-_, _≤_};
 ghost use lib.ListN.{length};
-ghost use Rattle.writing.specs.Put.{putField};
-ghost use Rattle.numbers.specs.Number.{number, decimal};
+ghost use Rattle.numbers.specs.Number.{decimal};
+ghost use Rattle.numbers.specs.Promises.{Number, PutNumber};
 
 // What a byte counts as a digit: 0 below '0'.
 fn value(b: u8) -> u64
@@ -18,7 +18,7 @@ fn value(b: u8) -> u64
 // The number that digits write. The longest number in the files, a count, has 15.
 pub fn number(f: &[u8]) -> u64
     requires { ⌜ length (now f) ≤ 15 ⌝ }
-    ensures { λ r. ⌜ r ≡ number (now (f .entry)) ⌝ }
+    ensures { λ r. ⌜ Number (now (f .entry)) r ⌝ }
 {
     let mut n: u64 = 0;
     let mut i: usize = 0;
@@ -45,7 +45,7 @@ fn put_digits(to: &mut [u8], v: u64)
 // A number written in `width` digits from a position on, counted from 1.
 pub fn put_number(text: &mut [u8], from: usize, width: usize, v: u64)
     requires { ⌜ (1 ≤ from) × (from - 1 + width ≤ length (now text)) ⌝ }
-    ensures { λ _. ⌜ now (text .exit) ≡ putField from (decimal width v) (now (text .entry)) ⌝ }
+    ensures { λ _. ⌜ PutNumber (now (text .entry)) from width v (now (text .exit)) ⌝ }
 {
     let at = from - 1;
     let behind = at + width;

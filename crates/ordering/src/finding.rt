@@ -6,11 +6,11 @@ ghost use Prim.Native.Nat.{ℕ, _*_, _-_, _≤_, _<_};
 ghost use lib.ListN.{length, getD};
 ghost use Rattle.theory.specs.Parts.{chop};
 ghost use Rattle.theory.specs.Place.{place};
-ghost use Rattle.theory.specs.Table.{tableOf};
 ghost use Rattle.texts.specs.Field.{field};
 ghost use Rattle.ordering.specs.Again.{keyAt};
 ghost use Rattle.ordering.specs.Places.{hasKey, placeFor};
 ghost use Rattle.ordering.specs.Order.{Less, Sorted};
+ghost use Rattle.ordering.specs.Promises.{Places};
 
 // For fewer lines the sort takes longer than it saves.
 const FEW: usize = 32;
@@ -25,7 +25,11 @@ fn sort(
     marks: &[u8],
     order: &mut [u16; 8192],
 ) -> bool
-    requires { ⌜ (length (now marks) * width ≤ length (now b)) × (1 ≤ from) × (from ≤ to) × (length (now marks) ≤ 8192) × ((a : ℕ) → getD (now marks) a 0 ≡ 0) ⌝ }
+    requires whole { ⌜ length (now marks) * width ≤ length (now b) ⌝ }
+    requires positive { ⌜ 1 ≤ from ⌝ }
+    requires forward { ⌜ from ≤ to ⌝ }
+    requires few { ⌜ length (now marks) ≤ 8192 ⌝ }
+    requires unmarked { ⌜ ((a : ℕ) → getD (now marks) a 0 ≡ 0) ⌝ }
     ensures { λ r. ⌜ (r ≡ true → Sorted (field from to) width (now (b .entry)) (now (order .exit)) (length (now (marks .entry)))) ⌝ }
 {
     let mut ranks = [0u16; 8192];
@@ -39,7 +43,7 @@ fn sort(
 }
 
 // The same for n parts, where so many lines are looked for that it pays.
-pub fn index(
+pub(crate) fn index(
     b: &[u8],
     width: usize,
     from: usize,
@@ -203,7 +207,11 @@ fn find_by(
     order: &[u16; 8192],
     t: &[u8],
 ) -> usize
-    requires { ⌜ (n * width ≤ length (now b)) × (1 ≤ from) × (from ≤ to) × (n ≤ 8192) × Sorted (field from to) width (now b) (now order) n ⌝ }
+    requires whole { ⌜ n * width ≤ length (now b) ⌝ }
+    requires positive { ⌜ 1 ≤ from ⌝ }
+    requires forward { ⌜ from ≤ to ⌝ }
+    requires few { ⌜ n ≤ 8192 ⌝ }
+    requires ordered { ⌜ Sorted (field from to) width (now b) (now order) n ⌝ }
     ensures { λ r. ⌜ (r ≡ place (hasKey (field from to) (now (t .entry))) (chop width n (now (b .entry)))) × (r ≤ n) ⌝ }
 {
     let rank = seek(b, width, from, to, n, order, t);
@@ -229,7 +237,11 @@ fn find(
     sorted: bool,
     t: &[u8],
 ) -> usize
-    requires { ⌜ (n * width ≤ length (now b)) × (1 ≤ from) × (from ≤ to) × (n ≤ 8192) × (sorted ≡ true → Sorted (field from to) width (now b) (now order) n) ⌝ }
+    requires whole { ⌜ n * width ≤ length (now b) ⌝ }
+    requires positive { ⌜ 1 ≤ from ⌝ }
+    requires forward { ⌜ from ≤ to ⌝ }
+    requires few { ⌜ n ≤ 8192 ⌝ }
+    requires ordered { ⌜ (sorted ≡ true → Sorted (field from to) width (now b) (now order) n) ⌝ }
     ensures { λ r. ⌜ (r ≡ place (hasKey (field from to) (now (t .entry))) (chop width n (now (b .entry)))) × (r ≤ n) ⌝ }
 {
     if sorted {
@@ -252,7 +264,13 @@ fn place_for(
     marks: &[u8],
     i: usize,
 ) -> usize
-    requires { ⌜ (n * width ≤ length (now b)) × (1 ≤ from) × (from ≤ to) × (n ≤ 8192) × (sorted ≡ true → Sorted (field from to) width (now b) (now order) n) × (length (now marks) * line ≤ length (now lines)) × (i < length (now marks)) ⌝ }
+    requires whole { ⌜ n * width ≤ length (now b) ⌝ }
+    requires positive { ⌜ 1 ≤ from ⌝ }
+    requires forward { ⌜ from ≤ to ⌝ }
+    requires few { ⌜ n ≤ 8192 ⌝ }
+    requires ordered { ⌜ (sorted ≡ true → Sorted (field from to) width (now b) (now order) n) ⌝ }
+    requires lined { ⌜ length (now marks) * line ≤ length (now lines) ⌝ }
+    requires within { ⌜ i < length (now marks) ⌝ }
     ensures { λ r. ⌜ (r ≡ placeFor (field from to) (chop width n (now (b .entry))) line (now (lines .entry)) (now (marks .entry)) i) × (r ≤ n) ⌝ }
 {
     if marks[i] != 0 {
@@ -271,7 +289,7 @@ fn place_for(
 }
 
 // What `places` promises, by an order that may be sorted.
-pub fn fill(
+pub(crate) fn fill(
     b: &[u8],
     width: usize,
     from: usize,
@@ -284,8 +302,14 @@ pub fn fill(
     marks: &[u8],
     found: &mut [u16],
 )
-    requires { ⌜ (n * width ≤ length (now b)) × (1 ≤ from) × (from ≤ to) × (n ≤ 8192) × (sorted ≡ true → Sorted (field from to) width (now b) (now order) n) × (length (now marks) * line ≤ length (now lines)) × (length (now found) ≤ length (now marks)) ⌝ }
-    ensures { λ _. ⌜ now (found .exit) ≡ tableOf (placeFor (field from to) (chop width n (now (b .entry))) line (now (lines .entry)) (now (marks .entry))) (length (now (found .entry))) ⌝ }
+    requires whole { ⌜ n * width ≤ length (now b) ⌝ }
+    requires positive { ⌜ 1 ≤ from ⌝ }
+    requires forward { ⌜ from ≤ to ⌝ }
+    requires few { ⌜ n ≤ 8192 ⌝ }
+    requires ordered { ⌜ (sorted ≡ true → Sorted (field from to) width (now b) (now order) n) ⌝ }
+    requires lined { ⌜ length (now marks) * line ≤ length (now lines) ⌝ }
+    requires marked { ⌜ length (now found) ≤ length (now marks) ⌝ }
+    ensures { λ _. ⌜ Places (now (b .entry)) width from to n (now (lines .entry)) line (now (marks .entry)) (now (found .entry)) (now (found .exit)) ⌝ }
 {
     let mut i: usize = 0;
     while i < found.len() {

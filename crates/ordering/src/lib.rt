@@ -3,18 +3,13 @@
 // keys are neighbours.
 ghost use mathlib.Core.Path.{_≡_};
 ghost use mathlib.Core.Bool.{true, false};
-ghost use mathlib.Core.List.{map};
 ghost use Prim.Native.Nat.{_*_, _+_, _≤_, _<_};
 ghost use lib.ListN.{length, getD};
-ghost use Rattle.theory.specs.Parts.{chop};
-ghost use Rattle.theory.specs.Pick.{good, pick};
-ghost use Rattle.theory.specs.Distinct.{distinct};
-ghost use Rattle.theory.specs.Table.{tableOf};
+ghost use Rattle.theory.specs.Pick.{good};
 ghost use Rattle.texts.specs.Field.{field};
-ghost use Rattle.pairing.specs.Pairing.{firsts};
 ghost use Rattle.ordering.specs.Again.{counted, keyAt, seen, again, noneAgain};
-ghost use Rattle.ordering.specs.Places.{placeFor};
 ghost use Rattle.ordering.specs.Order.{Less, Step, Rising, Covers};
+ghost use Rattle.ordering.specs.Promises.{AreApart, AreFirsts, Places};
 
 mod finding;
 mod sorting;
@@ -69,7 +64,8 @@ fn compare(s: &[u8], t: &[u8]) -> u8
 // Two parts with one key are in order where only the first is marked 0, and where both count the key stands there again.
 fn stay(marks: &[u8], all: bool, a: usize, c: usize) -> u8
     requires { ⌜ (a < length (now marks)) × (c < length (now marks)) ⌝ }
-    ensures { λ r. ⌜ (r ≡ 0 → (a < c) × (good (getD (now (marks .entry)) c 0) ≡ false)) × (r ≡ 1 → (a < c) × (good (getD (now (marks .entry)) c 0) ≡ true) × (counted all (getD (now (marks .entry)) a 0) ≡ true)) ⌝ }
+    ensures rising { λ r. ⌜ (r ≡ 0 → (a < c) × (good (getD (now (marks .entry)) c 0) ≡ false)) ⌝ }
+    ensures repeated { λ r. ⌜ (r ≡ 1 → (a < c) × (good (getD (now (marks .entry)) c 0) ≡ true) × (counted all (getD (now (marks .entry)) a 0) ≡ true)) ⌝ }
 {
     if c <= a {
         return LOST;
@@ -94,8 +90,13 @@ fn step(
     a: usize,
     c: usize,
 ) -> u8
-    requires { ⌜ (length (now marks) * width ≤ length (now b)) × (1 ≤ from) × (from ≤ to) × (a < length (now marks)) × (c < length (now marks)) ⌝ }
-    ensures { λ r. ⌜ (r ≡ 0 → Step (field from to) width (now (b .entry)) (now (marks .entry)) a c) × (r ≡ 1 → again (field from to) width (now (b .entry)) all (now (marks .entry)) c ≡ true) ⌝ }
+    requires whole { ⌜ length (now marks) * width ≤ length (now b) ⌝ }
+    requires positive { ⌜ 1 ≤ from ⌝ }
+    requires forward { ⌜ from ≤ to ⌝ }
+    requires here { ⌜ a < length (now marks) ⌝ }
+    requires there { ⌜ c < length (now marks) ⌝ }
+    ensures rising { λ r. ⌜ (r ≡ 0 → Step (field from to) width (now (b .entry)) (now (marks .entry)) a c) ⌝ }
+    ensures repeated { λ r. ⌜ (r ≡ 1 → again (field from to) width (now (b .entry)) all (now (marks .entry)) c ≡ true) ⌝ }
 {
     let keys = compare(key(b, width, from, to, a), key(b, width, from, to, c));
     if keys != AGAIN {
@@ -116,7 +117,8 @@ fn rise(
     m: usize,
 ) -> u8
     requires { ⌜ (length (now marks) * width ≤ length (now b)) × (1 ≤ from) × (from ≤ to) × (m ≤ 8192) ⌝ }
-    ensures { λ r. ⌜ (r ≡ 0 → Rising (field from to) width (now (b .entry)) (now (marks .entry)) (now (order .entry)) m) × (r ≡ 1 → noneAgain (field from to) width (now (b .entry)) all (now (marks .entry)) (length (now (marks .entry))) ≡ false) ⌝ }
+    ensures rising { λ r. ⌜ (r ≡ 0 → Rising (field from to) width (now (b .entry)) (now (marks .entry)) (now (order .entry)) m) ⌝ }
+    ensures repeated { λ r. ⌜ (r ≡ 1 → noneAgain (field from to) width (now (b .entry)) all (now (marks .entry)) (length (now (marks .entry))) ≡ false) ⌝ }
 {
     let mut i: usize = 0;
     while i + 1 < m {
@@ -226,7 +228,11 @@ fn test(
     ranks: &[u16; 8192],
     m: usize,
 ) -> bool
-    requires { ⌜ (length (now marks) * width ≤ length (now b)) × (1 ≤ from) × (from ≤ to) × (length (now marks) ≤ 8192) × (m ≤ 8192) ⌝ }
+    requires whole { ⌜ length (now marks) * width ≤ length (now b) ⌝ }
+    requires positive { ⌜ 1 ≤ from ⌝ }
+    requires forward { ⌜ from ≤ to ⌝ }
+    requires few { ⌜ length (now marks) ≤ 8192 ⌝ }
+    requires listed { ⌜ m ≤ 8192 ⌝ }
     ensures { λ r. ⌜ r ≡ noneAgain (field from to) width (now (b .entry)) all (now (marks .entry)) (length (now (marks .entry))) ⌝ }
 {
     let found = rise(b, width, from, to, marks, all, order, m);
@@ -256,7 +262,7 @@ fn decide(b: &[u8], width: usize, from: usize, to: usize, marks: &[u8], all: boo
 // Have no two of the parts marked 0 the same at positions `from` to `to`.
 pub fn are_apart(b: &[u8], width: usize, from: usize, to: usize, marks: &[u8]) -> bool
     requires { ⌜ (length (now marks) * width ≤ length (now b)) × (1 ≤ from) × (from ≤ to) ⌝ }
-    ensures { λ r. ⌜ r ≡ distinct (map (field from to) (pick good (now (marks .entry)) (chop width (length (now (marks .entry))) (now (b .entry))))) ⌝ }
+    ensures { λ r. ⌜ AreApart (now (b .entry)) width from to (now (marks .entry)) r ⌝ }
 {
     decide(b, width, from, to, marks, false)
 }
@@ -264,7 +270,7 @@ pub fn are_apart(b: &[u8], width: usize, from: usize, to: usize, marks: &[u8]) -
 // Is each part marked 0 the first that has what it has at positions `from` to `to`.
 pub fn are_firsts(b: &[u8], width: usize, from: usize, to: usize, marks: &[u8]) -> bool
     requires { ⌜ (length (now marks) * width ≤ length (now b)) × (1 ≤ from) × (from ≤ to) ⌝ }
-    ensures { λ r. ⌜ r ≡ firsts (map (field from to) (chop width (length (now (marks .entry))) (now (b .entry)))) (now (marks .entry)) ⌝ }
+    ensures { λ r. ⌜ AreFirsts (now (b .entry)) width from to (now (marks .entry)) r ⌝ }
 {
     decide(b, width, from, to, marks, true)
 }
@@ -282,8 +288,13 @@ pub fn places(
     marks: &[u8],
     found: &mut [u16],
 )
-    requires { ⌜ (n * width ≤ length (now b)) × (1 ≤ from) × (from ≤ to) × (length (now marks) * line ≤ length (now lines)) × (length (now found) ≤ length (now marks)) × (0 < length (now found) → n ≤ 8192) ⌝ }
-    ensures { λ _. ⌜ now (found .exit) ≡ tableOf (placeFor (field from to) (chop width n (now (b .entry))) line (now (lines .entry)) (now (marks .entry))) (length (now (found .entry))) ⌝ }
+    requires whole { ⌜ n * width ≤ length (now b) ⌝ }
+    requires positive { ⌜ 1 ≤ from ⌝ }
+    requires forward { ⌜ from ≤ to ⌝ }
+    requires lined { ⌜ length (now marks) * line ≤ length (now lines) ⌝ }
+    requires marked { ⌜ length (now found) ≤ length (now marks) ⌝ }
+    requires few { ⌜ (0 < length (now found) → n ≤ 8192) ⌝ }
+    ensures { λ _. ⌜ Places (now (b .entry)) width from to n (now (lines .entry)) line (now (marks .entry)) (now (found .entry)) (now (found .exit)) ⌝ }
 {
     if found.len() == 0 {
         return;

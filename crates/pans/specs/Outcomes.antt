@@ -4,10 +4,10 @@ use mathlib.Core.Bool.{Bool}
 use mathlib.Core.List.{List}
 use Prim.Native.Nat.{ℕ}
 use Rattle.theory.specs.Outcome.{one-outcome}
-use Rattle.pans.specs.Pan.{pan, luhn}
+use Rattle.pans.specs.Promises.{IsPan, IsLuhn}
 
-pub pan-one : (f : List ℕ) (r s : Bool) → r ≡ pan f → s ≡ pan f → r ≡ s
-pan-one f r s = one-outcome
+pub is-pan-one : (f : List ℕ) (r s : Bool) → IsPan f r → IsPan f s → r ≡ s
+is-pan-one f r s = one-outcome
 
-pub luhn-one : (f : List ℕ) (r s : Bool) → r ≡ luhn f → s ≡ luhn f → r ≡ s
-luhn-one f r s = one-outcome
+pub is-luhn-one : (f : List ℕ) (r s : Bool) → IsLuhn f r → IsLuhn f s → r ≡ s
+is-luhn-one f r s = one-outcome

@@ -1,15 +1,16 @@
 // The personal account number: its form (L1) and its Luhn sum (L5).
 ghost use mathlib.Core.Path.{_≡_};
 ghost use mathlib.Core.Bool.{true};
-ghost use Prim.Native.Nat.{_<_, _≤_, _%_};
+ghost use Prim.Native.Nat.{_<_, _%_};
 ghost use Rattle.theory.specs.Every.{all};
 ghost use Rattle.fields.specs.Field.{digit};
-ghost use Rattle.pans.specs.Pan.{pan, doubled, counted, luhnSum, luhn};
+ghost use Rattle.pans.specs.Pan.{doubled, counted, luhnSum};
+ghost use Rattle.pans.specs.Promises.{IsPan, IsLuhn};
 
 const PAN_LENGTH: usize = 19;
 
 pub fn is_pan(f: &[u8]) -> bool
-    ensures { λ r. ⌜ r ≡ pan (now (f .entry)) ⌝ }
+    ensures { λ r. ⌜ IsPan (now (f .entry)) r ⌝ }
 {
     (f.len() == PAN_LENGTH) & characters::is_filled(f, characters::digits_in(f))
 }
@@ -59,7 +60,7 @@ fn luhn_sum(digits: &[u8]) -> u64
 }
 
 pub fn is_luhn(f: &[u8]) -> bool
-    ensures { λ r. ⌜ r ≡ luhn (now (f .entry)) ⌝ }
+    ensures { λ r. ⌜ IsLuhn (now (f .entry)) r ⌝ }
 {
     let k = characters::digits_in(f);
     luhn_sum(&f[..k]) == 0

@@ -1,2 +1,3 @@
 pub mod Plate
+pub mod Promises
 pub mod Outcomes

@@ -4,16 +4,16 @@ use mathlib.Core.Bool.{Bool}
 use mathlib.Core.List.{List}
 use Prim.Native.Nat.{ℕ}
 use Rattle.theory.specs.Outcome.{one-outcome}
-use Rattle.plates.specs.Plate.{plate, plateCharacters, nationality, separator}
+use Rattle.plates.specs.Promises.{PlateCharacters, IsPlate, IsNationality, IsSeparator}
 
-pub plate-one : (f : List ℕ) (r s : Bool) → r ≡ plate f → s ≡ plate f → r ≡ s
-plate-one f r s = one-outcome
+pub plate-characters-one : (f : List ℕ) (r s : ℕ) → PlateCharacters f r → PlateCharacters f s → r ≡ s
+plate-characters-one f r s = one-outcome
 
-pub characters-one : (f : List ℕ) (r s : ℕ) → r ≡ plateCharacters f → s ≡ plateCharacters f → r ≡ s
-characters-one f r s = one-outcome
+pub is-plate-one : (f : List ℕ) (r s : Bool) → IsPlate f r → IsPlate f s → r ≡ s
+is-plate-one f r s = one-outcome
 
-pub nationality-one : (f : List ℕ) (r s : Bool) → r ≡ nationality f → s ≡ nationality f → r ≡ s
-nationality-one f r s = one-outcome
+pub is-nationality-one : (f : List ℕ) (r s : Bool) → IsNationality f r → IsNationality f s → r ≡ s
+is-nationality-one f r s = one-outcome
 
-pub separator-one : (f : List ℕ) (k : ℕ) (r s : Bool) → r ≡ separator f k → s ≡ separator f k → r ≡ s
-separator-one f k r s = one-outcome
+pub is-separator-one : (f : List ℕ) (k : ℕ) (r s : Bool) → IsSeparator f k r → IsSeparator f k s → r ≡ s
+is-separator-one f k r s = one-outcome

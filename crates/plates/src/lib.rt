@@ -3,7 +3,8 @@ ghost use mathlib.Core.Path.{_≡_};
 ghost use Prim.Native.Nat.{_+_};
 ghost use Rattle.theory.specs.Every.{leading};
 ghost use lib.Dec.{leb};
-ghost use Rattle.plates.specs.Plate.{allowed, allowedTable, plate, nationality, separated, separator};
+ghost use Rattle.plates.specs.Plate.{allowed, allowedTable, separated};
+ghost use Rattle.plates.specs.Promises.{PlateCharacters, IsPlate, IsNationality, IsSeparator};
 
 const PLATE_LENGTH: usize = 10;
 
@@ -49,19 +50,19 @@ fn admitted(table: &[u8; 256], f: &[u8]) -> usize
 }
 
 pub fn plate_characters(f: &[u8]) -> usize
-    ensures { λ r. ⌜ r ≡ leading allowed (now (f .entry)) ⌝ }
+    ensures { λ r. ⌜ PlateCharacters (now (f .entry)) r ⌝ }
 {
     admitted(&ALLOWED, f)
 }
 
 pub fn is_plate(f: &[u8]) -> bool
-    ensures { λ r. ⌜ r ≡ plate (now (f .entry)) ⌝ }
+    ensures { λ r. ⌜ IsPlate (now (f .entry)) r ⌝ }
 {
     (f.len() == PLATE_LENGTH) & characters::is_filled(f, plate_characters(f))
 }
 
 pub fn is_nationality(f: &[u8]) -> bool
-    ensures { λ r. ⌜ r ≡ nationality (now (f .entry)) ⌝ }
+    ensures { λ r. ⌜ IsNationality (now (f .entry)) r ⌝ }
 {
     (f.len() == 3)
         & fields::is_capitals(texts::field(f, 1, 2), 2)
@@ -98,7 +99,7 @@ fn is_separated(p: u64, q: u64, k: usize) -> bool
 
 // A plate of k characters may have these separators.
 pub fn is_separator(f: &[u8], k: usize) -> bool
-    ensures { λ r. ⌜ r ≡ separator (now (f .entry)) k ⌝ }
+    ensures { λ r. ⌜ IsSeparator (now (f .entry)) k r ⌝ }
 {
     let p = numbers::number(texts::field(f, 1, 1));
     let q = numbers::number(texts::field(f, 2, 2));

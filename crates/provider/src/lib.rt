@@ -18,7 +18,7 @@ ghost use Rattle.receipts.specs.Receipt.{answersIn, answersOf, reasonHolds, tex
 ghost use Rattle.provider.specs.Answer.{refusal, counted};
 ghost use Rattle.provider.specs.ReadBack.{reasonsOf, fileStops};
 ghost use Rattle.provider.specs.Update.{ownHolds, copyStops};
-ghost use Rattle.provider.specs.Outcomes.{ReadOutcome, UpdateOutcome};
+ghost use Rattle.provider.specs.Promises.{ReadBack, Update};
 
 const SLOT: usize = 128;
 
@@ -58,7 +58,8 @@ fn count(hgv: &[u8], hgc: &[u8], marks: &[u8]) -> Counted
 // Does the HGC hold beside its HGV (52); `marks` then says which lines were taken.
 fn is_receipt(hgv: &[u8], hgc: &[u8], marks: &mut [u8]) -> bool
     requires { ⌜ length (now marks) ≡ linesIn (now hgv) ⌝ }
-    ensures { λ r. ⌜ (r ≡ receiptHolds (now (hgv .entry)) (now (hgc .entry))) × (now (marks .exit) ≡ paired (textsOf (now (hgv .entry))) (copiesOf (now (hgc .entry)))) ⌝ }
+    ensures holding { λ r. ⌜ r ≡ receiptHolds (now (hgv .entry)) (now (hgc .entry)) ⌝ }
+    ensures marked { λ _. ⌜ now (marks .exit) ≡ paired (textsOf (now (hgv .entry))) (copiesOf (now (hgc .entry))) ⌝ }
 {
     let lines = matching::lines_hold(hgv, hgc, marks);
     receipts::says(hgv, hgc) & lines
@@ -102,7 +103,9 @@ fn verdict_at(hgc: &[u8], k: usize, mark: u8) -> u8
 
 // A verdict for each line, in front of the block; what lies behind them stays as it was.
 fn tell(hgc: &[u8], marks: &[u8], verdicts: &mut [u8])
-    requires { ⌜ (length (now marks) ≤ length (now verdicts)) × ((each reasonHolds (answersOf (now hgc)) ≡ true) × (tally bad (now marks) ≤ answersIn (now hgc))) ⌝ }
+    requires room { ⌜ length (now marks) ≤ length (now verdicts) ⌝ }
+    requires reasoned { ⌜ each reasonHolds (answersOf (now hgc)) ≡ true ⌝ }
+    requires answered { ⌜ tally bad (now marks) ≤ answersIn (now hgc) ⌝ }
     ensures { λ _. ⌜ now (verdicts .exit) ≡ told (now (marks .entry)) (reasonsOf (now (hgc .entry))) ++ drop (length (now (marks .entry))) (now (verdicts .entry)) ⌝ }
 {
     let mut k: usize = 0;
@@ -118,7 +121,7 @@ fn tell(hgc: &[u8], marks: &[u8], verdicts: &mut [u8])
 // What is read beside an HGV whose form is right; `marks` has a byte for each of its lines.
 fn read_lines(hgv: &[u8], hgc: &[u8], verdicts: &mut [u8], marks: &mut [u8]) -> Counted
     requires { ⌜ (first (fileStops (now hgv)) ≡ 0) × (length (now marks) ≡ linesIn (now hgv)) ⌝ }
-    ensures { λ r. ⌜ ReadOutcome (now (hgv .entry)) (now (hgc .entry)) (now (verdicts .entry)) r (now (verdicts .exit)) ⌝ }
+    ensures { λ r. ⌜ ReadBack (now (hgv .entry)) (now (hgc .entry)) (now (verdicts .entry)) r (now (verdicts .exit)) ⌝ }
 {
     if !is_receipt(hgv, hgc, marks) {
         return refused(52);
@@ -133,7 +136,7 @@ fn read_lines(hgv: &[u8], hgc: &[u8], verdicts: &mut [u8], marks: &mut [u8]) -> 
 // An HGC read back: 0 or a stop, and how many lines were taken and rejected; a byte for each HGV line goes into `verdicts`, 0
 // where it was taken, else the reason.
 pub fn read_back(hgv: &[u8], hgc: &[u8], verdicts: &mut [u8]) -> Counted
-    ensures { λ r. ⌜ ReadOutcome (now (hgv .entry)) (now (hgc .entry)) (now (verdicts .entry)) r (now (verdicts .exit)) ⌝ }
+    ensures { λ r. ⌜ ReadBack (now (hgv .entry)) (now (hgc .entry)) (now (verdicts .entry)) r (now (verdicts .exit)) ⌝ }
 {
     let stop = file_stop(hgv);
     if stop != 0 {
@@ -172,7 +175,7 @@ fn copy_stop(mode: u64, copy: &[u8], hgv: &[u8]) -> u64
 // The update by an HGV whose form is right; `marks` has a byte for each of its lines.
 fn update_lines(mode: u64, copy: &mut [u8], hgv: &[u8], hgc: &[u8], marks: &mut [u8]) -> Counted
     requires { ⌜ (first (copyStops mode (now copy) (now hgv)) ≡ 0) × (length (now marks) ≡ linesIn (now hgv)) ⌝ }
-    ensures { λ r. ⌜ UpdateOutcome mode (now (copy .entry)) (now (hgv .entry)) (now (hgc .entry)) r (now (copy .exit)) ⌝ }
+    ensures { λ r. ⌜ Update mode (now (copy .entry)) (now (hgv .entry)) (now (hgc .entry)) r (now (copy .exit)) ⌝ }
 {
     if !is_receipt(hgv, hgc, marks) {
         return refused(52);
@@ -190,7 +193,7 @@ fn update_lines(mode: u64, copy: &mut [u8], hgv: &[u8], hgc: &[u8], marks: &mut 
 
 // The update of a provider's copy by an import of his: 0 or a stop, and how many lines were taken and rejected.
 pub fn update(mode: u64, copy: &mut [u8], hgv: &[u8], hgc: &[u8]) -> Counted
-    ensures { λ r. ⌜ UpdateOutcome mode (now (copy .entry)) (now (hgv .entry)) (now (hgc .entry)) r (now (copy .exit)) ⌝ }
+    ensures { λ r. ⌜ Update mode (now (copy .entry)) (now (hgv .entry)) (now (hgc .entry)) r (now (copy .exit)) ⌝ }
 {
     let stop = copy_stop(mode, copy, hgv);
     if stop != 0 {

@@ -1,4 +1,5 @@
 pub mod Receipt
 pub mod Laws
 pub mod Written
+pub mod Promises
 pub mod Outcomes

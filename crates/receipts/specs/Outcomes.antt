@@ -4,16 +4,16 @@ use mathlib.Core.Bool.{Bool}
 use mathlib.Core.List.{List}
 use Prim.Native.Nat.{ℕ}
 use Rattle.theory.specs.Outcome.{one-outcome}
-use Rattle.receipts.specs.Receipt.{answersIn, behindHead, receptionOf, saysHold}
+use Rattle.receipts.specs.Promises.{AnswersIn, Answers, Reception, Says}
 
-pub answers-in-one : (g : List ℕ) (r s : ℕ) → r ≡ answersIn g → s ≡ answersIn g → r ≡ s
+pub answers-in-one : (g : List ℕ) (r s : ℕ) → AnswersIn g r → AnswersIn g s → r ≡ s
 answers-in-one g r s = one-outcome
 
-pub answers-one : (g r s : List ℕ) → r ≡ behindHead g → s ≡ behindHead g → r ≡ s
+pub answers-one : (g r s : List ℕ) → Answers g r → Answers g s → r ≡ s
 answers-one g r s = one-outcome
 
-pub reception-one : (g r s : List ℕ) → r ≡ receptionOf g → s ≡ receptionOf g → r ≡ s
+pub reception-one : (g r s : List ℕ) → Reception g r → Reception g s → r ≡ s
 reception-one g r s = one-outcome
 
-pub says-one : (h g : List ℕ) (r s : Bool) → r ≡ saysHold h g → s ≡ saysHold h g → r ≡ s
+pub says-one : (h g : List ℕ) (r s : Bool) → Says h g r → Says h g s → r ≡ s
 says-one h g r s = one-outcome

@@ -4,7 +4,8 @@ use hgc::places;
 ghost use mathlib.Core.Path.{_≡_};
 ghost use mathlib.Core.Bool.{_&&_};
 ghost use Rattle.theory.specs.Walk.{each};
-ghost use Rattle.receipts.specs.Receipt.{answersIn, behindHead, answersOf, receptionOf, lengthForm, headForm, answerForm, namesHold, outcomeHolds, reasonHolds, saysHold};
+ghost use Rattle.receipts.specs.Receipt.{answersOf, lengthForm, headForm, answerForm, namesHold, outcomeHolds, reasonHolds};
+ghost use Rattle.receipts.specs.Promises.{AnswersIn, Answers, Reception, Says};
 
 const HEADER: usize = 110;
 
@@ -15,7 +16,7 @@ const BARE: usize = HEADER + hgv::FOOTER;
 
 // How many lines it has.
 pub fn answers_in(hgc: &[u8]) -> usize
-    ensures { λ r. ⌜ r ≡ answersIn (now (hgc .entry)) ⌝ }
+    ensures { λ r. ⌜ AnswersIn (now (hgc .entry)) r ⌝ }
 {
     if hgc.len() < BARE {
         return 0;
@@ -25,7 +26,7 @@ pub fn answers_in(hgc: &[u8]) -> usize
 
 // Its lines, and what stands behind them.
 pub fn answers<'a>(hgc: &'a [u8]) -> &'a [u8]
-    ensures { λ r. ⌜ now r ≡ behindHead (now (hgc .entry)) ⌝ }
+    ensures { λ r. ⌜ Answers (now (hgc .entry)) (now r) ⌝ }
 {
     if hgc.len() < HEADER {
         return &hgc[0..0];
@@ -34,7 +35,7 @@ pub fn answers<'a>(hgc: &'a [u8]) -> &'a [u8]
 }
 
 pub fn reception<'a>(hgc: &'a [u8]) -> &'a [u8]
-    ensures { λ r. ⌜ now r ≡ receptionOf (now (hgc .entry)) ⌝ }
+    ensures { λ r. ⌜ Reception (now (hgc .entry)) (now r) ⌝ }
 {
     texts::field(hgc, places::RECEPTION_FROM, places::RECEPTION_TO)
 }
@@ -115,7 +116,7 @@ fn has_outcome(hgc: &[u8]) -> bool
 
 // Does what it says by itself, and of the HGV, hold.
 pub fn says(hgv: &[u8], hgc: &[u8]) -> bool
-    ensures { λ r. ⌜ r ≡ saysHold (now (hgv .entry)) (now (hgc .entry)) ⌝ }
+    ensures { λ r. ⌜ Says (now (hgv .entry)) (now (hgc .entry)) r ⌝ }
 {
     has_length(hgc)
         & has_head(hgc)

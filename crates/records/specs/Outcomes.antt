@@ -3,11 +3,12 @@ use mathlib.Core.Path.{_≡_}
 use mathlib.Core.List.{List}
 use Prim.Native.Nat.{ℕ}
 use Rattle.theory.specs.Outcome.{one-outcome}
-use Rattle.records.specs.Slot.{written, putRecord}
+use Rattle.records.specs.Promises.{WriteRecord, PutRecord}
 
--- the slot after write_record, and the register after put_record
-pub write-one : (reception l slot r s : List ℕ) → r ≡ written reception l slot → s ≡ written reception l slot → r ≡ s
-write-one reception l slot r s = one-outcome
+pub write-record-one : (slot line reception r s : List ℕ)
+    → WriteRecord slot line reception r → WriteRecord slot line reception s → r ≡ s
+write-record-one slot line reception r s = one-outcome
 
-pub put-one : (i : ℕ) (reception l b r s : List ℕ) → r ≡ putRecord i reception l b → s ≡ putRecord i reception l b → r ≡ s
-put-one i reception l b r s = one-outcome
+pub put-record-one : (register : List ℕ) (i : ℕ) (line reception r s : List ℕ)
+    → PutRecord register i line reception r → PutRecord register i line reception s → r ≡ s
+put-record-one register i line reception r s = one-outcome

@@ -4,7 +4,7 @@ ghost use Prim.Native.Nat.{_≤_};
 ghost use lib.ListN.{length};
 ghost use Rattle.writing.specs.Put.{putField};
 ghost use Rattle.lines.specs.End.{endOf, recordOf};
-ghost use Rattle.records.specs.Slot.{written, putRecord};
+ghost use Rattle.records.specs.Promises.{WriteRecord, PutRecord};
 
 const SLOT: usize = 128;
 
@@ -46,7 +46,7 @@ fn fill_slot(slot: &mut [u8], line: &[u8], reception: &[u8])
 // The record of a line written into its slot; a slot or a reception of another length, or a line that is too short,
 // leaves the slot as it was.
 pub fn write_record(slot: &mut [u8], line: &[u8], reception: &[u8])
-    ensures { λ _. ⌜ now (slot .exit) ≡ written (now (reception .entry)) (now (line .entry)) (now (slot .entry)) ⌝ }
+    ensures { λ _. ⌜ WriteRecord (now (slot .entry)) (now (line .entry)) (now (reception .entry)) (now (slot .exit)) ⌝ }
 {
     if !((slot.len() == SLOT) & (LINE_LEAST <= line.len()) & (reception.len() == TIME)) {
         return;
@@ -56,7 +56,7 @@ pub fn write_record(slot: &mut [u8], line: &[u8], reception: &[u8])
 
 // The same in slot i of a register; a place that is not there leaves the register as it was.
 pub fn put_record(register: &mut [u8], i: usize, line: &[u8], reception: &[u8])
-    ensures { λ _. ⌜ now (register .exit) ≡ putRecord i (now (reception .entry)) (now (line .entry)) (now (register .entry)) ⌝ }
+    ensures { λ _. ⌜ PutRecord (now (register .entry)) i (now (line .entry)) (now (reception .entry)) (now (register .exit)) ⌝ }
 {
     if register.len() / SLOT <= i {
         return;

@@ -1,4 +1,5 @@
 pub mod Register
 pub mod Search
 pub mod Laws
+pub mod Promises
 pub mod Outcomes

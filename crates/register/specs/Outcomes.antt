@@ -4,24 +4,23 @@ use mathlib.Core.Bool.{Bool}
 use mathlib.Core.List.{List}
 use Prim.Native.Nat.{ℕ}
 use Rattle.theory.specs.Outcome.{one-outcome}
-use Rattle.register.specs.Register.{slotsOf, usedIn, usedPart, inOrder}
-use Rattle.register.specs.Search.{placeOf, heldByAnother, countOf}
+use Rattle.register.specs.Promises.{UsedSlots, UsedPart, Find, IsHeldByAnother, CountOf, InOrder}
 
-module _ (b : List ℕ) where
-  pub used-one : (r s : ℕ) → r ≡ usedIn b → s ≡ usedIn b → r ≡ s
-  used-one r s = one-outcome
+pub used-slots-one : (b : List ℕ) (r s : ℕ) → UsedSlots b r → UsedSlots b s → r ≡ s
+used-slots-one b r s = one-outcome
 
-  pub part-one : (r s : List ℕ) → r ≡ usedPart b → s ≡ usedPart b → r ≡ s
-  part-one r s = one-outcome
+pub used-part-one : (b r s : List ℕ) → UsedPart b r → UsedPart b s → r ≡ s
+used-part-one b r s = one-outcome
 
-  pub order-one : (r s : Bool) → r ≡ inOrder b → s ≡ inOrder b → r ≡ s
-  order-one r s = one-outcome
+pub find-one : (b pan : List ℕ) (r s : ℕ) → Find b pan r → Find b pan s → r ≡ s
+find-one b pan r s = one-outcome
 
-  pub find-one : (pan : List ℕ) (r s : ℕ) → r ≡ placeOf pan (slotsOf b) → s ≡ placeOf pan (slotsOf b) → r ≡ s
-  find-one pan r s = one-outcome
+pub is-held-by-another-one : (b pan who : List ℕ) (r s : Bool)
+    → IsHeldByAnother b pan who r → IsHeldByAnother b pan who s → r ≡ s
+is-held-by-another-one b pan who r s = one-outcome
 
-  pub held-one : (pan who : List ℕ) (r s : Bool) → r ≡ heldByAnother pan who (slotsOf b) → s ≡ heldByAnother pan who (slotsOf b) → r ≡ s
-  held-one pan who r s = one-outcome
+pub count-of-one : (b who : List ℕ) (r s : ℕ) → CountOf b who r → CountOf b who s → r ≡ s
+count-of-one b who r s = one-outcome
 
-  pub count-one : (who : List ℕ) (r s : ℕ) → r ≡ countOf who (slotsOf b) → s ≡ countOf who (slotsOf b) → r ≡ s
-  count-one who r s = one-outcome
+pub in-order-one : (b : List ℕ) (r s : Bool) → InOrder b r → InOrder b s → r ≡ s
+in-order-one b r s = one-outcome

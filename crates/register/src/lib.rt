@@ -9,8 +9,9 @@ ghost use Rattle.theory.specs.Parts.{chop, partsFrom};
 ghost use Rattle.theory.specs.Walk.{each};
 ghost use Rattle.theory.specs.Distinct.{distinct};
 ghost use Rattle.columns.specs.Columns.{panOf};
-ghost use Rattle.register.specs.Register.{slotsOf, marked, usedForm, freeForm, usedIn, usedPart, inOrder};
-ghost use Rattle.register.specs.Search.{holdsPan, placeOf, ofActor, holdsForeign, heldByAnother, countOf};
+ghost use Rattle.register.specs.Register.{slotsOf, marked, usedForm, freeForm};
+ghost use Rattle.register.specs.Search.{holdsPan, ofActor, holdsForeign};
+ghost use Rattle.register.specs.Promises.{UsedSlots, UsedPart, Find, IsHeldByAnother, CountOf, InOrder};
 
 const SLOT: usize = 128;
 
@@ -24,7 +25,7 @@ fn is_marked(s: &[u8]) -> bool
 
 // How many slots are used: those in front of the first without `1`.
 pub fn used_slots(b: &[u8]) -> usize
-    ensures { λ r. ⌜ r ≡ usedIn (now (b .entry)) ⌝ }
+    ensures { λ r. ⌜ UsedSlots (now (b .entry)) r ⌝ }
 {
     let n = b.len() / SLOT;
     let mut i: usize = 0;
@@ -39,7 +40,7 @@ pub fn used_slots(b: &[u8]) -> usize
 
 // The used slots themselves: what a search over the records looks at.
 pub fn used_part<'a>(b: &'a [u8]) -> &'a [u8]
-    ensures { λ r. ⌜ now r ≡ usedPart (now (b .entry)) ⌝ }
+    ensures { λ r. ⌜ UsedPart (now (b .entry)) (now r) ⌝ }
 {
     let behind = used_slots(b) * SLOT;
     &b[..behind]
@@ -53,7 +54,7 @@ fn holds_pan(r: &[u8], pan: &[u8]) -> bool
 
 // The place of the first slot that has this PAN, or the number of slots.
 pub fn find(b: &[u8], pan: &[u8]) -> usize
-    ensures { λ r. ⌜ r ≡ placeOf (now (pan .entry)) (slotsOf (now (b .entry))) ⌝ }
+    ensures { λ r. ⌜ Find (now (b .entry)) (now (pan .entry)) r ⌝ }
 {
     let n = b.len() / SLOT;
     let mut i: usize = 0;
@@ -83,7 +84,7 @@ fn holds_foreign(r: &[u8], pan: &[u8], who: &[u8]) -> bool
 
 // Has one of the slots this PAN under another actor than `who` (L11).
 pub fn is_held_by_another(b: &[u8], pan: &[u8], who: &[u8]) -> bool
-    ensures { λ r. ⌜ r ≡ heldByAnother (now (pan .entry)) (now (who .entry)) (slotsOf (now (b .entry))) ⌝ }
+    ensures { λ r. ⌜ IsHeldByAnother (now (b .entry)) (now (pan .entry)) (now (who .entry)) r ⌝ }
 {
     let n = b.len() / SLOT;
     let mut i: usize = 0;
@@ -98,7 +99,7 @@ pub fn is_held_by_another(b: &[u8], pan: &[u8], who: &[u8]) -> bool
 
 // How many of the slots are this actor's.
 pub fn count_of(b: &[u8], who: &[u8]) -> usize
-    ensures { λ r. ⌜ r ≡ countOf (now (who .entry)) (slotsOf (now (b .entry))) ⌝ }
+    ensures { λ r. ⌜ CountOf (now (b .entry)) (now (who .entry)) r ⌝ }
 {
     let n = b.len() / SLOT;
     let mut k: usize = 0;
@@ -169,7 +170,7 @@ fn all_different(b: &[u8], n: usize) -> bool
 
 // 0 to 8,192 whole slots, the used ones first and in form, all their PANs different, and zeros behind them.
 pub fn in_order(b: &[u8]) -> bool
-    ensures { λ r. ⌜ r ≡ inOrder (now (b .entry)) ⌝ }
+    ensures { λ r. ⌜ InOrder (now (b .entry)) r ⌝ }
 {
     let n = b.len() / SLOT;
     if !((b.len() % SLOT == 0) & (n <= SLOTS)) {

@@ -3,7 +3,7 @@ use mathlib.Core.Path.{_≡_}
 use mathlib.Core.Bool.{Bool}
 use Prim.Native.Nat.{ℕ}
 use Rattle.theory.specs.Outcome.{one-outcome}
-use Rattle.theory.specs.First.{choose}
+use Rattle.rules.specs.Promises.{First}
 
-pub first-one : (fits : Bool) (number later r s : ℕ) → r ≡ choose fits number later → s ≡ choose fits number later → r ≡ s
+pub first-one : (fits : Bool) (number later r s : ℕ) → First fits number later r → First fits number later s → r ≡ s
 first-one fits number later r s = one-outcome

@@ -11,7 +11,7 @@ use Rattle.provider.specs.declared.Counted.{Counted}
 
 -- the number returned and the three numbers written, as the import answers them
 abbrev pub answered : ℕ → ℕ → ℕ → ℕ → Imported
-answered number taken rejected length = record { number = number; taken = taken; rejected = rejected; length = length }
+answered number taken rejected size = record { number = number; taken = taken; rejected = rejected; length = size }
 
 -- the number returned and the two numbers written, as the provider's functions answer them
 abbrev pub countedAs : ℕ → ℕ → ℕ → Counted

@@ -1,3 +1,4 @@
 pub mod Answers
 pub mod Stands
+pub mod Promises
 pub mod Outcomes

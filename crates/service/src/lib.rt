@@ -2,11 +2,10 @@
 // number that it is lent, zeros at a refusal.
 ghost use mathlib.Core.Path.{_≡_};
 ghost use Prim.Native.Nat.{_*_, _≤_};
-ghost use Rattle.lookups.specs.Lookup.{panNumber, plateNumber};
-ghost use Rattle.importer.specs.Import.{answer, registerAfter, hgcAfter};
-ghost use Rattle.provider.specs.ReadBack.{readAnswer, verdictsAfter};
-ghost use Rattle.provider.specs.Update.{updateAnswer, copyAfter};
-ghost use Rattle.service.specs.Answers.{answered, countedAs, startOf, panStart, panLength, plateStart, plateLength};
+ghost use Rattle.importer.specs.Promises.{Import};
+ghost use Rattle.provider.specs.Promises.{ReadBack, Update};
+ghost use Rattle.service.specs.Answers.{answered, countedAs, startOf};
+ghost use Rattle.service.specs.Promises.{GraftspindleByPan, GraftspindleByPlate};
 
 const SLOT: usize = 128;
 
@@ -23,7 +22,7 @@ pub extern "C" fn graftspindle_import(
     rejected: &mut u64,
     length: &mut u64,
 ) -> u64
-    ensures { λ r. ⌜ (answered r (now (taken .exit)) (now (rejected .exit)) (now (length .exit)) ≡ answer mode (now (reception .entry)) (now (register .entry)) (now (rows .entry)) (now (hgv .entry)) (now (hgc .entry))) × ((now (register .exit) ≡ registerAfter mode (now (reception .entry)) (now (register .entry)) (now (rows .entry)) (now (hgv .entry)) (now (hgc .entry))) × (now (hgc .exit) ≡ hgcAfter mode (now (reception .entry)) (now (register .entry)) (now (rows .entry)) (now (hgv .entry)) (now (hgc .entry)))) ⌝ }
+    ensures { λ r. ⌜ Import mode (now (reception .entry)) (now (register .entry)) (now (rows .entry)) (now (hgv .entry)) (now (hgc .entry)) (answered r (now (taken .exit)) (now (rejected .exit)) (now (length .exit))) (now (register .exit)) (now (hgc .exit)) ⌝ }
 {
     let done = importer::import(mode, reception, register, rows, hgv, hgc);
     *taken = done.taken;
@@ -48,7 +47,7 @@ pub extern "C" fn graftspindle_by_pan(
     start: &mut u64,
     length: &mut u64,
 ) -> u64
-    ensures { λ r. ⌜ (r ≡ panNumber (now (register .entry)) (now (pan .entry))) × ((now (start .exit) ≡ panStart (now (register .entry)) (now (pan .entry))) × (now (length .exit) ≡ panLength (now (register .entry)) (now (pan .entry)))) ⌝ }
+    ensures { λ r. ⌜ GraftspindleByPan (now (register .entry)) (now (pan .entry)) (now (start .entry)) (now (length .entry)) r (now (start .exit)) (now (length .exit)) ⌝ }
 {
     let mut number: u64 = 0;
     let slot = lookups::by_pan(register, pan, &mut number);
@@ -68,7 +67,7 @@ pub extern "C" fn graftspindle_by_plate(
     start: &mut u64,
     length: &mut u64,
 ) -> u64
-    ensures { λ r. ⌜ (r ≡ plateNumber (now (register .entry)) (now (plate .entry)) (now (nationality .entry)) (now (time .entry))) × ((now (start .exit) ≡ plateStart (now (register .entry)) (now (plate .entry)) (now (nationality .entry)) (now (time .entry))) × (now (length .exit) ≡ plateLength (now (register .entry)) (now (plate .entry)) (now (nationality .entry)) (now (time .entry)))) ⌝ }
+    ensures { λ r. ⌜ GraftspindleByPlate (now (register .entry)) (now (plate .entry)) (now (nationality .entry)) (now (time .entry)) (now (start .entry)) (now (length .entry)) r (now (start .exit)) (now (length .exit)) ⌝ }
 {
     let mut number: u64 = 0;
     let slot = lookups::by_plate(register, plate, nationality, time, &mut number);
@@ -87,7 +86,7 @@ pub extern "C" fn graftspindle_read_back(
     taken: &mut u64,
     rejected: &mut u64,
 ) -> u64
-    ensures { λ r. ⌜ (countedAs r (now (taken .exit)) (now (rejected .exit)) ≡ readAnswer (now (hgv .entry)) (now (hgc .entry)) (now (verdicts .entry))) × (now (verdicts .exit) ≡ verdictsAfter (now (hgv .entry)) (now (hgc .entry)) (now (verdicts .entry))) ⌝ }
+    ensures { λ r. ⌜ ReadBack (now (hgv .entry)) (now (hgc .entry)) (now (verdicts .entry)) (countedAs r (now (taken .exit)) (now (rejected .exit))) (now (verdicts .exit)) ⌝ }
 {
     let read = provider::read_back(hgv, hgc, verdicts);
     *taken = read.taken;
@@ -105,7 +104,7 @@ pub extern "C" fn graftspindle_update(
     taken: &mut u64,
     rejected: &mut u64,
 ) -> u64
-    ensures { λ r. ⌜ (countedAs r (now (taken .exit)) (now (rejected .exit)) ≡ updateAnswer mode (now (copy .entry)) (now (hgv .entry)) (now (hgc .entry))) × (now (copy .exit) ≡ copyAfter mode (now (copy .entry)) (now (hgv .entry)) (now (hgc .entry))) ⌝ }
+    ensures { λ r. ⌜ Update mode (now (copy .entry)) (now (hgv .entry)) (now (hgc .entry)) (countedAs r (now (taken .exit)) (now (rejected .exit))) (now (copy .exit)) ⌝ }
 {
     let updated = provider::update(mode, copy, hgv, hgc);
     *taken = updated.taken;

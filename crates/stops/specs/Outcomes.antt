@@ -4,13 +4,14 @@ use mathlib.Core.Bool.{Bool}
 use mathlib.Core.List.{List}
 use Prim.Native.Nat.{ℕ}
 use Rattle.theory.specs.Outcome.{one-outcome}
-use Rattle.stops.specs.Stops.{modeHolds, notFull, formStop}
+use Rattle.stops.specs.Promises.{IsMode, IsNotFull, FormStop}
 
-pub stop-one : (mode : ℕ) (reception register b h : List ℕ) (r s : ℕ) → r ≡ formStop mode reception register b h → s ≡ formStop mode reception register b h → r ≡ s
-stop-one mode reception register b h r s = one-outcome
+pub is-mode-one : (mode : ℕ) (r s : Bool) → IsMode mode r → IsMode mode s → r ≡ s
+is-mode-one mode r s = one-outcome
 
-pub mode-one : (mode : ℕ) (r s : Bool) → r ≡ modeHolds mode → s ≡ modeHolds mode → r ≡ s
-mode-one mode r s = one-outcome
+pub is-not-full-one : (mode : ℕ) (h : List ℕ) (r s : Bool) → IsNotFull mode h r → IsNotFull mode h s → r ≡ s
+is-not-full-one mode h r s = one-outcome
 
-pub not-full-one : (mode : ℕ) (h : List ℕ) (r s : Bool) → r ≡ notFull mode h → s ≡ notFull mode h → r ≡ s
-not-full-one mode h r s = one-outcome
+pub form-stop-one : (mode : ℕ) (reception register rows h : List ℕ) (r s : ℕ)
+    → FormStop mode reception register rows h r → FormStop mode reception register rows h s → r ≡ s
+form-stop-one mode reception register rows h r s = one-outcome

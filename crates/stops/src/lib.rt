@@ -1,19 +1,20 @@
 // The stops of an import that look at what was handed over, before any line is judged.
 ghost use mathlib.Core.Path.{_≡_};
-ghost use Rattle.stops.specs.Stops.{modeHolds, notFull, addressed, formStop};
+ghost use Rattle.stops.specs.Stops.{addressed};
+ghost use Rattle.stops.specs.Promises.{IsMode, IsNotFull, FormStop};
 
 const INCREMENTAL: u64 = 1;
 
 const FULL: u64 = 2;
 
 pub fn is_mode(mode: u64) -> bool
-    ensures { λ r. ⌜ r ≡ modeHolds mode ⌝ }
+    ensures { λ r. ⌜ IsMode mode r ⌝ }
 {
     (mode == INCREMENTAL) | (mode == FULL)
 }
 
 pub fn is_not_full(mode: u64, hgv: &[u8]) -> bool
-    ensures { λ r. ⌜ r ≡ notFull mode (now (hgv .entry)) ⌝ }
+    ensures { λ r. ⌜ IsNotFull mode (now (hgv .entry)) r ⌝ }
 {
     (mode == FULL) & claims::is_incremental_only(hgv)
 }
@@ -27,7 +28,7 @@ fn is_addressed(rows: &[u8], hgv: &[u8]) -> bool
 
 // The first of the stops 21 to 32 that holds, or 0: from the last to the first, so that the first stands.
 pub fn form_stop(mode: u64, reception: &[u8], register: &[u8], rows: &[u8], hgv: &[u8]) -> u64
-    ensures { λ r. ⌜ r ≡ formStop mode (now (reception .entry)) (now (register .entry)) (now (rows .entry)) (now (hgv .entry)) ⌝ }
+    ensures { λ r. ⌜ FormStop mode (now (reception .entry)) (now (register .entry)) (now (rows .entry)) (now (hgv .entry)) r ⌝ }
 {
     let s32 = rules::first(!frames::has_frames(hgv), 32, 0);
     let s31 = rules::first(!frames::has_footer(hgv), 31, s32);

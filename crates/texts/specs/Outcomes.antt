@@ -4,22 +4,21 @@ use mathlib.Core.Bool.{Bool}
 use mathlib.Core.List.{List}
 use Prim.Native.Nat.{ℕ}
 use Rattle.theory.specs.Outcome.{one-outcome}
-use Rattle.theory.specs.Same.{eqs}
-use Rattle.theory.specs.Parts.{partAt}
-use Rattle.texts.specs.Field.{field, listed}
+use Rattle.texts.specs.Promises.{Field, Part, Same, HasText, Listed}
 
-pub field-one : (text : List ℕ) (from to : ℕ) (r s : List ℕ) → r ≡ field from to text → s ≡ field from to text → r ≡ s
+pub field-one : (text : List ℕ) (from to : ℕ) (r s : List ℕ) → Field text from to r → Field text from to s → r ≡ s
 field-one text from to r s = one-outcome
 
-pub part-one : (width i : ℕ) (block r s : List ℕ) → r ≡ partAt width i block → s ≡ partAt width i block → r ≡ s
-part-one width i block r s = one-outcome
+pub part-one : (block : List ℕ) (width i : ℕ) (r s : List ℕ) → Part block width i r → Part block width i s → r ≡ s
+part-one block width i r s = one-outcome
 
--- two texts compared
-pub same-one : (a b : List ℕ) (r s : Bool) → r ≡ eqs a b → s ≡ eqs a b → r ≡ s
+pub same-one : (a b : List ℕ) (r s : Bool) → Same a b r → Same a b s → r ≡ s
 same-one a b r s = one-outcome
 
-pub has-text-one : (from to : ℕ) (t u : List ℕ) (r s : Bool) → r ≡ eqs (field from to t) u → s ≡ eqs (field from to t) u → r ≡ s
-has-text-one from to t u r s = one-outcome
+pub has-text-one : (t : List ℕ) (from to : ℕ) (text : List ℕ) (r s : Bool)
+    → HasText t from to text r → HasText t from to text s → r ≡ s
+has-text-one t from to text r s = one-outcome
 
-pub listed-one : (width : ℕ) (table f : List ℕ) (r s : Bool) → r ≡ listed width table f → s ≡ listed width table f → r ≡ s
-listed-one width table f r s = one-outcome
+pub listed-one : (f : List ℕ) (width : ℕ) (table : List ℕ) (r s : Bool)
+    → Listed f width table r → Listed f width table s → r ≡ s
+listed-one f width table r s = one-outcome

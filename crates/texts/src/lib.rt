@@ -1,15 +1,12 @@
 // Where a text stands in another: fields by their positions, parts of a block, entries of a table; two texts compared.
-ghost use mathlib.Core.Path.{_≡_};
 ghost use Prim.Native.Nat.{_+_, _*_, _≤_, _<_};
 ghost use lib.ListN.{length};
-ghost use Rattle.theory.specs.Same.{eqs};
-ghost use Rattle.theory.specs.Parts.{partAt};
-ghost use Rattle.texts.specs.Field.{field, listed};
+ghost use Rattle.texts.specs.Promises.{Field, Part, Same, HasText, Listed};
 
 // Positions `from` to `to` of a text, counted from 1.
 pub fn field<'a>(text: &'a [u8], from: usize, to: usize) -> &'a [u8]
     requires { ⌜ (1 ≤ from) × (from ≤ to) ⌝ }
-    ensures { λ r. ⌜ now r ≡ field from to (now (text .entry)) ⌝ }
+    ensures { λ r. ⌜ Field (now (text .entry)) from to (now r) ⌝ }
 {
     if text.len() < from {
         return &text[0..0];
@@ -24,7 +21,7 @@ pub fn field<'a>(text: &'a [u8], from: usize, to: usize) -> &'a [u8]
 // The part at place i of a block whose parts are `width` bytes long, counted from 0.
 pub fn part<'a>(block: &'a [u8], width: usize, i: usize) -> &'a [u8]
     requires { ⌜ i * width + width ≤ length (now block) ⌝ }
-    ensures { λ r. ⌜ now r ≡ partAt width i (now (block .entry)) ⌝ }
+    ensures { λ r. ⌜ Part (now (block .entry)) width i (now r) ⌝ }
 {
     let at = i * width;
     let end = at + width;
@@ -33,7 +30,7 @@ pub fn part<'a>(block: &'a [u8], width: usize, i: usize) -> &'a [u8]
 
 // From the last byte to the first: numbers that are counted on differ at their end.
 pub fn same(a: &[u8], b: &[u8]) -> bool
-    ensures { λ r. ⌜ r ≡ eqs (now (a .entry)) (now (b .entry)) ⌝ }
+    ensures { λ r. ⌜ Same (now (a .entry)) (now (b .entry)) r ⌝ }
 {
     if a.len() != b.len() {
         return false;
@@ -51,7 +48,7 @@ pub fn same(a: &[u8], b: &[u8]) -> bool
 // Does `text` stand at positions `from` to `to` of s.
 pub fn has_text(s: &[u8], from: usize, to: usize, text: &[u8]) -> bool
     requires { ⌜ (1 ≤ from) × (from ≤ to) ⌝ }
-    ensures { λ r. ⌜ r ≡ eqs (field from to (now (s .entry))) (now (text .entry)) ⌝ }
+    ensures { λ r. ⌜ HasText (now (s .entry)) from to (now (text .entry)) r ⌝ }
 {
     same(field(s, from, to), text)
 }
@@ -59,7 +56,7 @@ pub fn has_text(s: &[u8], from: usize, to: usize, text: &[u8]) -> bool
 // Is `f` an entry of a table whose entries are `width` bytes long.
 pub fn listed(f: &[u8], width: usize, table: &[u8]) -> bool
     requires { ⌜ 0 < width ⌝ }
-    ensures { λ r. ⌜ r ≡ listed width (now (table .entry)) (now (f .entry)) ⌝ }
+    ensures { λ r. ⌜ Listed (now (f .entry)) width (now (table .entry)) r ⌝ }
 {
     let n = table.len() / width;
     let mut i: usize = 0;

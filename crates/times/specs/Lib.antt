@@ -3,4 +3,5 @@ pub mod Moment
 pub mod Date
 pub mod Calendar
 pub mod Order
+pub mod Promises
 pub mod Outcomes

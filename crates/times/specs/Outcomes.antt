@@ -4,14 +4,13 @@ use mathlib.Core.Bool.{Bool}
 use mathlib.Core.List.{List}
 use Prim.Native.Nat.{ℕ}
 use Rattle.theory.specs.Outcome.{one-outcome}
-use Rattle.times.specs.Time.{realTime, realDate}
-use Rattle.times.specs.Order.{earlier}
+use Rattle.times.specs.Promises.{IsRealTime, IsRealDate, IsEarlier}
 
-pub real-time-one : (t : List ℕ) (r s : Bool) → r ≡ realTime t → s ≡ realTime t → r ≡ s
-real-time-one t r s = one-outcome
+pub is-real-time-one : (t : List ℕ) (r s : Bool) → IsRealTime t r → IsRealTime t s → r ≡ s
+is-real-time-one t r s = one-outcome
 
-pub real-date-one : (d : List ℕ) (r s : Bool) → r ≡ realDate d → s ≡ realDate d → r ≡ s
-real-date-one d r s = one-outcome
+pub is-real-date-one : (d : List ℕ) (r s : Bool) → IsRealDate d r → IsRealDate d s → r ≡ s
+is-real-date-one d r s = one-outcome
 
-pub earlier-one : (a b : List ℕ) (r s : Bool) → r ≡ earlier a b → s ≡ earlier a b → r ≡ s
-earlier-one a b r s = one-outcome
+pub is-earlier-one : (a b : List ℕ) (r s : Bool) → IsEarlier a b r → IsEarlier a b s → r ≡ s
+is-earlier-one a b r s = one-outcome

@@ -3,8 +3,8 @@ ghost use mathlib.Core.Path.{_≡_};
 ghost use Prim.Native.Nat.{_+_, _≤_};
 ghost use Rattle.texts.specs.Field.{field};
 ghost use Rattle.numbers.specs.Number.{number};
-ghost use Rattle.times.specs.Time.{leap, daysIn, year, month, day, hour, minute, second, realDay, realClock, realTime, realDate};
-ghost use Rattle.times.specs.Order.{earlier};
+ghost use Rattle.times.specs.Time.{leap, daysIn, year, month, day, hour, minute, second, realDay, realClock};
+ghost use Rattle.times.specs.Promises.{IsRealTime, IsRealDate, IsEarlier};
 
 fn is_leap(y: u64) -> bool
     ensures { λ r. ⌜ r ≡ leap y ⌝ }
@@ -54,20 +54,20 @@ fn has_clock(t: &[u8]) -> bool
 }
 
 pub fn is_real_time(t: &[u8]) -> bool
-    ensures { λ r. ⌜ r ≡ realTime (now (t .entry)) ⌝ }
+    ensures { λ r. ⌜ IsRealTime (now (t .entry)) r ⌝ }
 {
     fields::is_digits(t, 14) & (has_day(t) & has_clock(t))
 }
 
 pub fn is_real_date(d: &[u8]) -> bool
-    ensures { λ r. ⌜ r ≡ realDate (now (d .entry)) ⌝ }
+    ensures { λ r. ⌜ IsRealDate (now (d .entry)) r ⌝ }
 {
     fields::is_digits(d, 8) & has_day(d)
 }
 
 // Does `a` come before `b` by the bytes.
 pub fn is_earlier(a: &[u8], b: &[u8]) -> bool
-    ensures { λ r. ⌜ r ≡ earlier (now (a .entry)) (now (b .entry)) ⌝ }
+    ensures { λ r. ⌜ IsEarlier (now (a .entry)) (now (b .entry)) r ⌝ }
 {
     let mut i: usize = 0;
     while i < b.len() {

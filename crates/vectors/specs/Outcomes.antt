@@ -3,18 +3,17 @@ use mathlib.Core.Path.{_≡_}
 use mathlib.Core.List.{List}
 use Prim.Native.Nat.{ℕ}
 use Rattle.theory.specs.Outcome.{one-outcome}
-use Rattle.theory.specs.Every.{leading}
-use Rattle.vectors.specs.Vectors.{other, changed, kept, laid}
+use Rattle.vectors.specs.Promises.{Before, Change, Keep, Lay}
 
-pub before-one : (end : ℕ) (f : List ℕ) (r s : ℕ) → r ≡ leading (other end) f → s ≡ leading (other end) f → r ≡ s
-before-one end f r s = one-outcome
+pub before-one : (f : List ℕ) (end r s : ℕ) → Before f end r → Before f end s → r ≡ s
+before-one f end r s h k = one-outcome (h .0) (k .0)
 
--- the block after change, after keep, and after lay
-pub change-one : (f b r s : List ℕ) → r ≡ changed f b → s ≡ changed f b → r ≡ s
-change-one f b r s = one-outcome
+pub change-one : (to f r s : List ℕ) → Change to f r → Change to f s → r ≡ s
+change-one to f r s = one-outcome
 
-pub keep-one : (f samples r s : List ℕ) → r ≡ kept f samples → s ≡ kept f samples → r ≡ s
-keep-one f samples r s = one-outcome
+pub keep-one : (samples f r s : List ℕ) → Keep samples f r → Keep samples f s → r ≡ s
+keep-one samples f r s = one-outcome
 
-pub lay-one : (from width : ℕ) (samples letters b r s : List ℕ) → r ≡ laid width samples from letters b → s ≡ laid width samples from letters b → r ≡ s
-lay-one from width samples letters b r s = one-outcome
+pub lay-one : (to : List ℕ) (from width : ℕ) (samples letters r s : List ℕ)
+    → Lay to from width samples letters r → Lay to from width samples letters s → r ≡ s
+lay-one to from width samples letters r s = one-outcome

@@ -1,19 +1,18 @@
 // The files of vectors: where a part of a line ends, texts laid out by the letters that name them, and a place changed.
 ghost use mathlib.Core.Path.{_≡_};
-ghost use mathlib.Core.Bool.{true};
 ghost use mathlib.Core.List.{map};
 ghost use Prim.Native.Nat.{_+_, _-_, _*_, _≤_};
 ghost use lib.ListN.{length, getD};
-ghost use Rattle.theory.specs.Every.{leading};
 ghost use Rattle.writing.specs.Put.{putField};
-ghost use Rattle.vectors.specs.Vectors.{other, marked, fits, putText, changed, kept, sample, laid};
+ghost use Rattle.vectors.specs.Vectors.{marked, fits, putText, sample};
+ghost use Rattle.vectors.specs.Promises.{Before, Change, Keep, Lay};
 
 // The most bytes that a text with a letter has.
 pub const WIDTH: usize = 130;
 
 // How many bytes stand in front of the first `end`.
 pub fn before(s: &[u8], end: u8) -> usize
-    ensures { λ r. ⌜ (r ≡ leading (other end) (now (s .entry))) × (r ≤ length (now (s .entry))) ⌝ }
+    ensures { λ r. ⌜ Before (now (s .entry)) end r ⌝ }
 {
     let mut i: usize = 0;
     while i < s.len() {
@@ -83,7 +82,7 @@ fn put_text(to: &mut [u8], from: usize, text: &[u8])
 
 // A change of a block: a position in three digits, a blank, and the text that goes there.
 pub fn change(to: &mut [u8], f: &[u8])
-    ensures { λ _. ⌜ now (to .exit) ≡ changed (now (f .entry)) (now (to .entry)) ⌝ }
+    ensures { λ _. ⌜ Change (now (to .entry)) (now (f .entry)) (now (to .exit)) ⌝ }
 {
     let from = numbers::number(texts::field(f, 1, 3)) as usize;
     put_text(to, from, texts::field(f, 5, 65536));
@@ -101,7 +100,7 @@ fn letter_of(f: &[u8]) -> u8
 
 // A text with its letter: the letter, a blank, the text.
 pub fn keep(samples: &mut [u8], f: &[u8])
-    ensures { λ _. ⌜ now (samples .exit) ≡ kept (now (f .entry)) (now (samples .entry)) ⌝ }
+    ensures { λ _. ⌜ Keep (now (samples .entry)) (now (f .entry)) (now (samples .exit)) ⌝ }
 {
     let letter = letter_of(f);
     put_text(
@@ -123,7 +122,7 @@ fn lay_one(to: &mut [u8], from: usize, width: usize, samples: &[u8], letter: u8)
 // The texts that the letters name, each by its first bytes, one behind the other from a position on.
 pub fn lay(to: &mut [u8], from: usize, width: usize, samples: &[u8], letters: &[u8])
     requires { ⌜ ((1 ≤ from) × (from - 1 + length (now letters) * width ≤ length (now to))) × ((width ≤ 130) × (length (now samples) ≡ 33280)) ⌝ }
-    ensures { λ _. ⌜ now (to .exit) ≡ laid width (now (samples .entry)) from (now (letters .entry)) (now (to .entry)) ⌝ }
+    ensures { λ _. ⌜ Lay (now (to .entry)) from width (now (samples .entry)) (now (letters .entry)) (now (to .exit)) ⌝ }
 {
     let mut at = from;
     let mut i: usize = 0;

@@ -1,3 +1,4 @@
 pub mod Vehicle
 pub mod Parts
+pub mod Promises
 pub mod Outcomes

@@ -4,7 +4,7 @@ use mathlib.Core.Bool.{Bool}
 use mathlib.Core.List.{List}
 use Prim.Native.Nat.{ℕ}
 use Rattle.theory.specs.Outcome.{one-outcome}
-use Rattle.vehicles.specs.Vehicle.{L10}
+use Rattle.vehicles.specs.Promises.{HoldsL10}
 
-pub l10-one : (l : List ℕ) (r s : Bool) → r ≡ L10 l → s ≡ L10 l → r ≡ s
-l10-one l r s = one-outcome
+pub holds-l10-one : (l : List ℕ) (r s : Bool) → HoldsL10 l r → HoldsL10 l s → r ≡ s
+holds-l10-one l r s = one-outcome

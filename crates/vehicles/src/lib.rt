@@ -3,7 +3,8 @@ ghost use mathlib.Core.Path.{_≡_};
 ghost use mathlib.Core.Bool.{_||_};
 ghost use Rattle.theory.specs.Every.{run};
 ghost use Rattle.fields.specs.Field.{digit, blank};
-ghost use Rattle.vehicles.specs.Vehicle.{tariffHolds, classHolds, emissionHolds, productHolds, engineHolds, validToHolds, separatorHolds, fieldsHold, weightHolds, L10};
+ghost use Rattle.vehicles.specs.Vehicle.{tariffHolds, classHolds, emissionHolds, productHolds, engineHolds, validToHolds, separatorHolds, fieldsHold, weightHolds};
+ghost use Rattle.vehicles.specs.Promises.{HoldsL10};
 
 // The highest code that a light vehicle's weight may have, in 10 kg.
 const LIGHT_MOST: u64 = 350;
@@ -115,7 +116,7 @@ fn has_light_weight(l: &[u8]) -> bool
 }
 
 pub fn holds_l10(l: &[u8]) -> bool
-    ensures { λ r. ⌜ r ≡ L10 (now (l .entry)) ⌝ }
+    ensures { λ r. ⌜ HoldsL10 (now (l .entry)) r ⌝ }
 {
     has_emission(l) & has_fields(l) & has_light_weight(l)
 }

@@ -4,20 +4,14 @@ use mathlib.Core.Bool.{Bool}
 use mathlib.Core.List.{List}
 use Prim.Native.Nat.{ℕ}
 use Rattle.theory.specs.Outcome.{one-outcome}
-use Rattle.theory.specs.Parts.{chop}
-use Rattle.theory.specs.Walk.{some}
-use Rattle.theory.specs.Pick.{good, pick}
-use Rattle.theory.specs.Tally.{tally}
-use Rattle.register.specs.Search.{holdsPan}
-use Rattle.verdicts.specs.Verdict.{fileVerdicts}
+use Rattle.verdicts.specs.Promises.{IsNamed, Judge, CountTaken}
 
-pub named-one : (lines vs : List ℕ) (n : ℕ) (pan : List ℕ) (r s : Bool)
-    → r ≡ some (holdsPan pan) (pick good vs (chop 128 n lines)) → s ≡ some (holdsPan pan) (pick good vs (chop 128 n lines)) → r ≡ s
-named-one lines vs n pan r s = one-outcome
+pub is-named-one : (lines vs : List ℕ) (n : ℕ) (pan : List ℕ) (r s : Bool)
+    → IsNamed lines vs n pan r → IsNamed lines vs n pan s → r ≡ s
+is-named-one lines vs n pan r s = one-outcome
 
--- the verdicts after judge
-pub judge-one : (rows : List ℕ) (R : List (List ℕ)) (h r s : List ℕ) → r ≡ fileVerdicts rows R h → s ≡ fileVerdicts rows R h → r ≡ s
-judge-one rows R h r s = one-outcome
+pub judge-one : (h rows register vs r s : List ℕ) → Judge h rows register vs r → Judge h rows register vs s → r ≡ s
+judge-one h rows register vs r s = one-outcome
 
-pub count-one : (vs : List ℕ) (r s : ℕ) → r ≡ tally good vs → s ≡ tally good vs → r ≡ s
-count-one vs r s = one-outcome
+pub count-taken-one : (vs : List ℕ) (r s : ℕ) → CountTaken vs r → CountTaken vs s → r ≡ s
+count-taken-one vs r s = one-outcome

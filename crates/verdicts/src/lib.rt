@@ -5,20 +5,18 @@ ghost use Prim.Native.Nat.{_+_, _*_, _≤_};
 ghost use lib.ListN.{length};
 ghost use Rattle.theory.specs.First.{first};
 ghost use Rattle.theory.specs.Parts.{chop, partAt};
-ghost use Rattle.theory.specs.Walk.{some};
 ghost use Rattle.theory.specs.Pick.{good, pick};
-ghost use Rattle.theory.specs.Tally.{tally};
-ghost use Rattle.register.specs.Register.{records, slotsOf};
-ghost use Rattle.register.specs.Search.{holdsPan};
+ghost use Rattle.register.specs.Register.{slotsOf};
 ghost use Rattle.hgv.specs.Layout.{lineLength, linesIn};
-ghost use Rattle.verdicts.specs.Verdict.{ownRules, verdict, verdictsOf, fileVerdicts};
+ghost use Rattle.verdicts.specs.Verdict.{ownRules, verdict, verdictsOf};
+ghost use Rattle.verdicts.specs.Promises.{IsNamed, Judge, CountTaken};
 
 const LINE: usize = 128;
 
 // Has one of the taken lines among the first n this PAN.
 pub fn is_named(lines: &[u8], verdicts: &[u8], n: usize, pan: &[u8]) -> bool
     requires { ⌜ (n * lineLength ≤ length (now lines)) × (n ≤ length (now verdicts)) ⌝ }
-    ensures { λ r. ⌜ r ≡ some (holdsPan (now (pan .entry))) (pick good (now (verdicts .entry)) (chop lineLength n (now (lines .entry)))) ⌝ }
+    ensures { λ r. ⌜ IsNamed (now (lines .entry)) (now (verdicts .entry)) n (now (pan .entry)) r ⌝ }
 {
     let mut i: usize = 0;
     while i < n {
@@ -87,7 +85,7 @@ fn judge_lines(lines: &[u8], sender: &[u8], rows: &[u8], held: &[u8], verdicts: 
 // The verdicts of a file, a byte for each of its lines.
 pub fn judge(hgv: &[u8], rows: &[u8], register: &[u8], verdicts: &mut [u8])
     requires { ⌜ length (now verdicts) ≡ linesIn (now hgv) ⌝ }
-    ensures { λ _. ⌜ now (verdicts .exit) ≡ fileVerdicts (now (rows .entry)) (records (now (register .entry))) (now (hgv .entry)) ⌝ }
+    ensures { λ _. ⌜ Judge (now (hgv .entry)) (now (rows .entry)) (now (register .entry)) (now (verdicts .entry)) (now (verdicts .exit)) ⌝ }
 {
     let lines = hgv::body(hgv);
     let sender = header::sender(hgv);
@@ -96,7 +94,7 @@ pub fn judge(hgv: &[u8], rows: &[u8], register: &[u8], verdicts: &mut [u8])
 
 // How many of them are 0.
 pub fn count_taken(verdicts: &[u8]) -> u64
-    ensures { λ r. ⌜ r ≡ tally good (now (verdicts .entry)) ⌝ }
+    ensures { λ r. ⌜ CountTaken (now (verdicts .entry)) r ⌝ }
 {
     let mut k: u64 = 0;
     let mut i: usize = 0;

@@ -7,7 +7,7 @@ use Prim.Native.Nat.{ℕ}
 use lib.ListN.{take}
 use Rattle.theory.specs.Same.{eqs, eqs-refl}
 use Rattle.importer.specs.declared.Imported.{Imported}
-use Rattle.importer.specs.Outcomes.{Outcome as Import}
+use Rattle.importer.specs.Promises.{Import}
 use Rattle.demands.specs.History.{Handed, Imports, empty}
 use Rattle.witnesses.specs.Files as files
 use Rattle.witnesses.specs.Computed.{with, answerTo, after, bufferAfter, Single, computed}

@@ -14,9 +14,9 @@ use Rattle.theory.specs.Pad.{pad}
 use Rattle.texts.specs.Field.{field}
 use Rattle.register.specs.Register.{slotLength, records}
 use Rattle.importer.specs.declared.Imported.{Imported}
-use Rattle.importer.specs.Outcomes.{Outcome as Import}
+use Rattle.importer.specs.Promises.{Import}
 use Rattle.provider.specs.declared.Counted.{Counted}
-use Rattle.provider.specs.Outcomes.{UpdateOutcome as Update}
+use Rattle.provider.specs.Promises.{Update}
 use Rattle.demands.specs.Own.{own}
 use Rattle.demands.specs.History.{Handed, Imports, Sent, Entry, apply, Event, acceptance, concerns, his, entries, empty, _▸_, Ours, start, accepted, refused, Replay, applied}
 use Rattle.demands.specs.Demand3.{copy-is}

@@ -1,3 +1,4 @@
 pub mod Put
 pub mod Laid
+pub mod Promises
 pub mod Outcomes

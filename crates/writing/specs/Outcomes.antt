@@ -3,11 +3,11 @@ use mathlib.Core.Path.{_≡_}
 use mathlib.Core.List.{List}
 use Prim.Native.Nat.{ℕ}
 use Rattle.theory.specs.Outcome.{one-outcome}
-use Rattle.writing.specs.Put.{putField}
+use Rattle.writing.specs.Promises.{Copy, PutField}
 
--- the text after copy, and after put_field
-pub copy-one : (from r s : List ℕ) → r ≡ from → s ≡ from → r ≡ s
-copy-one from r s = one-outcome
+pub copy-one : (to from r s : List ℕ) → Copy to from r → Copy to from s → r ≡ s
+copy-one to from r s = one-outcome
 
-pub put-one : (from : ℕ) (f text r s : List ℕ) → r ≡ putField from f text → s ≡ putField from f text → r ≡ s
-put-one from f text r s = one-outcome
+pub put-field-one : (text : List ℕ) (from : ℕ) (f r s : List ℕ)
+    → PutField text from f r → PutField text from f s → r ≡ s
+put-field-one text from f r s = one-outcome

@@ -18,7 +18,7 @@ store-placed-requires c κs =
     let x = c .before .before .before .before .before in
     let p = x .before .before .before .before .before .before .before .pre in
     let k = at-once _ _ _ (c .before .before .at-once .ensures) in
-    (p .0, rw (length-take-le _ _ (k .most)) (k .within), apply-ready _ _ _ _ _ (p .1 .1) _ _ (x .prepare .ensures), apply-sought _ _ _ _ _ (p .1 .1) _ _ (x .prepare .ensures) _ (k .most))
+    (p .0, (rw (length-take-le _ _ (k .most)) (k .within), (apply-ready _ _ _ _ _ (p .1 .1) _ _ (x .prepare .ensures), apply-sought _ _ _ _ _ (p .1 .1) _ _ (x .prepare .ensures) _ (k .most))))
 
 returns : tie.Need-returns
 returns c =

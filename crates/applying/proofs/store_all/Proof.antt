@@ -27,7 +27,7 @@ abbrev μ-loop : tie.MeasureT-loop
 loop-holds : tie.Need-loop-holds Inv-loop μ-loop
 loop-holds c =
     let p = c .before .before .before .before .before .pre in
-    (omega arith, storing-start _ _ _ _ _ _ _ (p .1), p .2)
+    (omega arith, storing-start _ _ _ _ _ _ _ (p .1 .0), p .1 .1)
 
 part-requires : tie.Need-part-requires Inv-loop μ-loop
 part-requires c κs = part-fits 128 _ (c .before .loop .i) _ (c .before .before .before .before .before .before .before .pre .0) (c .loop-test .taken)
@@ -49,7 +49,7 @@ loop-again c =
     (omega (arith, t), storing-turn _ _ _ _ _ (a .verdicts .now) (a .lines .now) _ (x .loop .inv .1) t _ p _ _ w, standing-left (a .verdicts .now) (a .lines .now) _ _ _ _ (x .loop .inv .2) t _ p _ _ (storing-ready _ _ _ _ _ (a .verdicts .now) (a .lines .now) _ (x .loop .inv .1) t _ p) _ _ w)
 
 same-length : tie.Need-same-length Inv-loop μ-loop
-same-length c = storing-length _ _ _ _ _ _ _ _ _ (c .before .before .before .before .before .before .before .pre .1) (c .before .loop .inv .1)
+same-length c = storing-length _ _ _ _ _ _ _ _ _ (c .before .before .before .before .before .before .before .pre .1 .0) (c .before .loop .inv .1)
 
 returns : tie.Need-returns Inv-loop μ-loop
 returns c =

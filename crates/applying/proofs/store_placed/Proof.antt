@@ -7,13 +7,13 @@ use Rattle.applying.proofs.store_placed.Tie as tie
 
 place-lines-requires : tie.Need-place-lines-requires
 place-lines-requires c κs =
-    let p = c .before .before .before .before .before .before .before .pre in
-    (p .0, p .1, p .2 .counted, storing-most _ _ _ _ _ _ (p .2))
+    let (lined, (judged, (storing, _))) = c .before .before .before .before .before .before .before .pre in
+    (lined, (judged, (storing .counted, storing-most _ _ _ _ _ _ storing)))
 
 store-all-requires : tie.Need-store-all-requires
 store-all-requires c κs =
-    let p = c .before .before .before .before .before .before .before .before .before .before .before .before .pre in
-    (p .0, p .2, standing-start _ _ _ _ _ (p .3) _ (p .2 .counted) (storing-most _ _ _ _ _ _ (p .2)) _ _ (c .before .before .before .before .place-lines .ensures))
+    let (lined, (_, (storing, sought))) = c .before .before .before .before .before .before .before .before .before .before .before .before .pre in
+    (lined, (storing, standing-start _ _ _ _ _ sought _ (storing .counted) (storing-most _ _ _ _ _ _ storing) _ _ (c .before .before .before .before .place-lines .ensures)))
 
 returns : tie.Need-returns
 returns c = c .before .before .store-all .ensures

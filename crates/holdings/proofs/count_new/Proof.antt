@@ -15,7 +15,7 @@ slice-aggregate-count-placed c = sym (length-take-le _ _ (at-once _ _ _ (c .befo
 count-placed-requires : tie.Need-count-placed-requires
 count-placed-requires c κs =
     let k = at-once _ _ _ (c .before .at-once .ensures) in
-    rw (length-take-le _ _ (k .most)) (c .before .before .before .before .before .pre, k .within, k .few)
+    rw (length-take-le _ _ (k .most)) (c .before .before .before .before .before .pre, (k .within, k .few))
 
 returns : tie.Need-returns
 returns c = c .before .count-placed .ensures

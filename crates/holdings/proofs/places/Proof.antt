@@ -9,8 +9,7 @@ use Rattle.holdings.proofs.places.Tie as tie
 
 places-requires : tie.Need-places-requires
 places-requires c κs =
-    let p = c .before .before .before .before .before .pre in
-    (div-mul-le-self _ 128, omega arith, omega arith, p .0, p .1, p .2)
+    (div-mul-le-self _ 128, (omega arith, (omega arith, c .before .before .before .before .before .pre)))
 
 returns : tie.Need-returns
 unfolding placesIn slotsOf

@@ -1,5 +1,5 @@
 -- Assumes nothing.
-use Rattle.importer.specs.Outcomes.{Outcome}
+use Rattle.importer.specs.Promises.{Import}
 use mathlib.Core.Path.{sym, _∙_}
 use native.Mathlib.Omega.{arith}
 use Rattle.stops.specs.Clear.{clear}
@@ -11,7 +11,7 @@ use Rattle.importer.proofs.import.Statement.{statement}
 use Rattle.importer.proofs.import.Tie as tie
 
 returns : tie.Need-returns
-unfolding Outcome
+unfolding Import
 returns c =
     let n = number-form _ _ _ _ _ _ _ (c .before .before .form-stop .ensures) (c .before .if1 .taken) in
     (c .refused .ensures ∙ stop-answer _ _ _ _ _ _ _ n (c .before .if1 .taken), (stop-register _ _ _ _ _ _ _ n (c .before .if1 .taken), stop-hgc _ _ _ _ _ _ _ n (c .before .if1 .taken)))

@@ -1,5 +1,5 @@
 -- Assumes nothing.
-use Rattle.importer.specs.Outcomes.{Outcome}
+use Rattle.importer.specs.Promises.{Import}
 use mathlib.Core.Path.{sym, _∙_}
 use Rattle.importer.specs.Numbers.{number-room, stop-answer, stop-register, stop-hgc, done-answer, done-register, done-hgc}
 use Rattle.importer.proofs.Laws.{taken-most, room-asks, accepts}
@@ -16,7 +16,7 @@ room-stop-requires c κs =
     room-asks _ _ _ _ _ _ (p .0) (p .1) _ (c .before .before .count-taken .ensures)
 
 returns : tie.Need-returns
-unfolding Outcome
+unfolding Import
 returns c =
     let p = c .before .before .before .before .before .before .before .before .before .before .before .before .pre in
     let n = number-room _ _ _ _ _ _ (p .0) _ (c .before .before .room-stop .ensures) in
@@ -29,7 +29,7 @@ carry-out-requires c κs =
     accepts _ _ _ _ _ _ (p .0) (p .1) _ _ (x .before .before .before .count-taken .ensures) _ (x .room-stop .ensures) (c .before .before .if1 .left)
 
 returns-2 : tie.Need-returns-2
-unfolding Outcome
+unfolding Import
 returns-2 c =
     let x = c .before .before .before .before in
     let y = x .before .before .before in

@@ -25,7 +25,7 @@ returns-2 c = found-lost
 
 step-requires : tie.Need-step-requires Inv-loop μ-loop
 step-requires c κs = let p = c .before .before .before .before .before .before .before .before .before .before .pre in
-    (p .0, p .1, p .2, c .before .if1 .left, c .if2 .left)
+    (p .0, (p .1, (p .2, (c .before .if1 .left, c .if2 .left))))
 
 returns-3 : tie.Need-returns-3 Inv-loop μ-loop
 returns-3 c = rise-stop _ _ _ _ _ _ (c .before .before .if2 .left) _ (c .before .step .ensures) (c .if3 .taken)

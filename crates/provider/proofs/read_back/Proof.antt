@@ -1,5 +1,5 @@
 -- Assumes nothing.
-use Rattle.provider.specs.Outcomes.{ReadOutcome}
+use Rattle.provider.specs.Promises.{ReadBack}
 use lib.Seq.{length-take-le}
 use Rattle.provider.specs.Numbers.{read-file, read-refused, verdicts-stay}
 use Rattle.provider.proofs.Steps.{file-most}
@@ -10,7 +10,7 @@ use Rattle.provider.proofs.read_back.Statement.{statement}
 use Rattle.provider.proofs.read_back.Tie as tie
 
 returns : tie.Need-returns
-unfolding ReadOutcome
+unfolding ReadBack
 returns c = let n = read-file _ _ _ _ (c .before .before .file-stop .ensures) (c .before .if1 .taken) in
     (c .refused .ensures ∙ read-refused _ _ _ _ n (c .before .if1 .taken), verdicts-stay _ _ _ _ n (c .before .if1 .taken))
 

@@ -1,18 +1,18 @@
 -- Assumes nothing.
-use Rattle.provider.specs.Outcomes.{ReadOutcome}
+use Rattle.provider.specs.Promises.{ReadBack}
 use Rattle.provider.proofs.Steps.{read-not, read-short, tell-fits, marks-fit, read-whole}
 use borrow.Author.Needs.{needs}
 use Rattle.provider.proofs.read_lines.Statement.{statement}
 use Rattle.provider.proofs.read_lines.Tie as tie
 
 returns : tie.Need-returns
-unfolding ReadOutcome
+unfolding ReadBack
 returns c = let x = c .before .before .before .before in
     let p = x .before .before .before .before .before .before .pre in
     read-not _ _ _ (p .0) _ (x .is-receipt .ensures .0) (c .before .if1 .taken) _ (c .refused .ensures)
 
 returns-2 : tie.Need-returns-2
-unfolding ReadOutcome
+unfolding ReadBack
 returns-2 c = let x = c .before .before .before .before .before in
     let p = x .before .before .before .before .before .before .pre in
     read-short _ _ _ (p .0) _ (x .is-receipt .ensures .0) (c .before .before .if1 .left) _ (x .is-receipt .ensures .1) (c .before .if2 .taken) _ (c .refused2 .ensures)
@@ -27,7 +27,7 @@ count-requires c κs = let y = c .before .before .before .before .before .before
     marks-fit _ _ _ (x .is-receipt .ensures .0) (y .if1 .left) _ (x .is-receipt .ensures .1)
 
 returns-3 : tie.Need-returns-3
-unfolding ReadOutcome
+unfolding ReadBack
 returns-3 c = let y = c .before .before .before .before .before .before .before .before in
     let x = y .before .before .before in
     let p = x .before .before .before .before .before .before .pre in

@@ -1,5 +1,5 @@
 -- Assumes nothing.
-use Rattle.provider.specs.Outcomes.{UpdateOutcome}
+use Rattle.provider.specs.Promises.{Update}
 use lib.Seq.{length-take-le}
 use Rattle.provider.specs.Numbers.{update-copy, update-refused, copy-stays}
 use Rattle.provider.proofs.Steps.{copy-most}
@@ -10,7 +10,7 @@ use Rattle.provider.proofs.update.Statement.{statement}
 use Rattle.provider.proofs.update.Tie as tie
 
 returns : tie.Need-returns
-unfolding UpdateOutcome
+unfolding Update
 returns c = let n = update-copy _ _ _ _ _ (c .before .before .copy-stop .ensures) (c .before .if1 .taken) in
     (c .refused .ensures ∙ update-refused _ _ _ _ _ n (c .before .if1 .taken), copy-stays _ _ _ _ _ n (c .before .if1 .taken))
 

@@ -1,12 +1,12 @@
 -- Assumes nothing.
-use Rattle.provider.specs.Outcomes.{UpdateOutcome}
+use Rattle.provider.specs.Promises.{Update}
 use Rattle.provider.proofs.Steps.{update-not, lines-fit, update-full, apply-fits, marks-fit, update-whole}
 use borrow.Author.Needs.{needs}
 use Rattle.provider.proofs.update_lines.Statement.{statement}
 use Rattle.provider.proofs.update_lines.Tie as tie
 
 returns : tie.Need-returns
-unfolding UpdateOutcome
+unfolding Update
 returns c = let x = c .before .before .before .before in
     let p = x .before .before .before .before .before .before .pre in
     update-not _ _ _ _ (p .0) _ (x .is-receipt .ensures .0) (c .before .if1 .taken) _ (c .refused .ensures)
@@ -18,7 +18,7 @@ used-after-requires c κs = let y = c .before .before .before .before in
     lines-fit _ _ _ _ (p .0) _ (x .is-receipt .ensures .0) (y .if1 .left) _ (x .is-receipt .ensures .1) _ _ (c .before .before .before .sender .ensures) (c .before .before .body .ensures)
 
 returns-2 : tie.Need-returns-2
-unfolding UpdateOutcome
+unfolding Update
 returns-2 c = let y = c .before .before .before .before .before .before .before in
     let x = y .before .before .before in
     let b = c .before .before .before .before .before in
@@ -40,7 +40,7 @@ count-requires c κs = let u = c .before .before .before .before .before .before
     marks-fit _ _ _ (x .is-receipt .ensures .0) (y .if1 .left) _ (x .is-receipt .ensures .1)
 
 returns-3 : tie.Need-returns-3
-unfolding UpdateOutcome
+unfolding Update
 returns-3 c = let a = c .before .before .before .before in
     let u = a .before .before .before .before .before in
     let b = u .before .before .before in

@@ -1,11 +1,9 @@
 -- Assumes nothing.
-use Rattle.importer.specs.Outcomes.{Outcome}
 use borrow.Author.Needs.{needs}
 use Rattle.service.proofs.graftspindle_import.Statement.{statement}
 use Rattle.service.proofs.graftspindle_import.Tie as tie
 
 returns : tie.Need-returns
-unfolding Outcome
 returns c = c .before .before .before .before .import .ensures
 
 pub graftspindle-import-spec : {M : Type 1} → statement M

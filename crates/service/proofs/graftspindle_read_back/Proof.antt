@@ -1,11 +1,9 @@
 -- Assumes nothing.
-use Rattle.provider.specs.Outcomes.{ReadOutcome}
 use borrow.Author.Needs.{needs}
 use Rattle.service.proofs.graftspindle_read_back.Statement.{statement}
 use Rattle.service.proofs.graftspindle_read_back.Tie as tie
 
 returns : tie.Need-returns
-unfolding ReadOutcome
 returns c = c .before .before .read-back .ensures
 
 pub graftspindle-read-back-spec : {M : Type 1} → statement M

@@ -1,11 +1,9 @@
 -- Assumes nothing.
-use Rattle.provider.specs.Outcomes.{UpdateOutcome}
 use borrow.Author.Needs.{needs}
 use Rattle.service.proofs.graftspindle_update.Statement.{statement}
 use Rattle.service.proofs.graftspindle_update.Tie as tie
 
 returns : tie.Need-returns
-unfolding UpdateOutcome
 returns c = c .before .before .update .ensures
 
 pub graftspindle-update-spec : {M : Type 1} → statement M

@@ -22,13 +22,13 @@ loop-holds c = filled-start _ _
 
 place-for-requires : tie.Need-place-for-requires Inv-loop μ-loop
 place-for-requires c κs =
-    let p = c .before .before .before .before .before .before .pre in
-    (p .0, p .1, p .2, p .3, p .4, p .5, omega (arith, p .6, c .before .loop .inv .size, c .loop-test .taken))
+    let (whole, (positive, (forward, (few, (ordered, (lined, marked)))))) = c .before .before .before .before .before .before .pre in
+    (whole, (positive, (forward, (few, (ordered, (lined, omega (arith, marked, c .before .loop .inv .size, c .loop-test .taken)))))))
 
 cast-found : tie.Need-cast-found Inv-loop μ-loop
 cast-found c =
     let p = c .before .before .before .before .before .before .before .pre in
-    omega (arith, p .3, c .place-for .ensures .1)
+    omega (arith, p .1 .1 .1 .0, c .place-for .ensures .1)
 
 loop-less : tie.Need-loop-less Inv-loop μ-loop
 loop-less c = omega (arith, c .before .before .loop .inv .size, c .before .loop-test .taken)

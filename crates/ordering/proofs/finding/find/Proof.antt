@@ -5,8 +5,8 @@ use Rattle.ordering.proofs.finding.find.Tie as tie
 
 find-by-requires : tie.Need-find-by-requires
 find-by-requires c κs =
-    let p = c .before .before .before .pre in
-    (p .0, p .1, p .2, p .3, p .4 (c .if1 .taken))
+    let (whole, (positive, (forward, (few, ordered)))) = c .before .before .before .pre in
+    (whole, (positive, (forward, (few, ordered (c .if1 .taken)))))
 
 pub find-spec : {M : Type 1} → statement M
 find-spec = tie.close (tie.spec find-by-requires (λ c. search needs) (λ c κs. search needs) (λ c. search needs))

@@ -16,7 +16,7 @@ slice-aggregate-sort c = sym (length-cut _ 8192 _ (c .before .before .before .pr
 sort-requires : tie.Need-sort-requires
 sort-requires c κs =
     let x = c .before .before .before .before in
-    (cut-fits _ 8192 _ _ _ (x .pre .3) (x .pre .0), x .pre .1, x .pre .2, rw (length-cut (x .args .n) 8192 0 (x .pre .3)) (x .pre .3), all-zero (x .args .n) 8192)
+    (cut-fits _ 8192 _ _ _ (x .pre .3) (x .pre .0), (x .pre .1, (x .pre .2, (rw (length-cut (x .args .n) 8192 0 (x .pre .3)) (x .pre .3), all-zero (x .args .n) 8192))))
 
 returns-2 : tie.Need-returns-2
 returns-2 c = λ e. rw (length-cut _ 8192 0 (c .before .before .before .before .before .pre .3)) at (c .sort .ensures e)

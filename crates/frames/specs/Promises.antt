@@ -1,0 +1,15 @@
+-- What each public function of this crate promises. Assumes nothing.
+use mathlib.Core.Path.{_≡_}
+use mathlib.Core.Bool.{Bool}
+use mathlib.Core.List.{List}
+use Prim.Native.Nat.{ℕ}
+use Rattle.frames.specs.Frames.{footerForm, footerHolds, framesHold}
+
+abbrev pub IsFooter : List ℕ → Bool → Type 0
+IsFooter f r = r ≡ footerForm f
+
+abbrev pub HasFooter : List ℕ → Bool → Type 0
+HasFooter h r = r ≡ footerHolds h
+
+abbrev pub HasFrames : List ℕ → Bool → Type 0
+HasFrames h r = r ≡ framesHold h

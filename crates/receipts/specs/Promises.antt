@@ -1,0 +1,20 @@
+-- What each public function of this crate promises. Assumes nothing.
+use mathlib.Core.Path.{_≡_}
+use mathlib.Core.Bool.{Bool}
+use mathlib.Core.List.{List}
+use Prim.Native.Nat.{ℕ}
+use Rattle.receipts.specs.Receipt.{answersIn, behindHead, receptionOf, saysHold}
+
+abbrev pub AnswersIn : List ℕ → ℕ → Type 0
+AnswersIn g r = r ≡ answersIn g
+
+-- its lines, and what stands behind them
+abbrev pub Answers : List ℕ → List ℕ → Type 0
+Answers g r = r ≡ behindHead g
+
+abbrev pub Reception : List ℕ → List ℕ → Type 0
+Reception g r = r ≡ receptionOf g
+
+-- by itself, and of the HGV
+abbrev pub Says : List ℕ → List ℕ → Bool → Type 0
+Says h g r = r ≡ saysHold h g

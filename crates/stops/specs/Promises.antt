@@ -1,0 +1,17 @@
+-- What each public function of this crate promises. Assumes nothing.
+use mathlib.Core.Path.{_≡_}
+use mathlib.Core.Bool.{Bool}
+use mathlib.Core.List.{List}
+use Prim.Native.Nat.{ℕ}
+use Rattle.stops.specs.Stops.{modeHolds, notFull, formStop}
+
+abbrev pub IsMode : ℕ → Bool → Type 0
+IsMode mode r = r ≡ modeHolds mode
+
+-- a full list of a version that is incremental only
+abbrev pub IsNotFull : ℕ → List ℕ → Bool → Type 0
+IsNotFull mode h r = r ≡ notFull mode h
+
+-- the first of the stops 21 to 32
+abbrev pub FormStop : ℕ → List ℕ → List ℕ → List ℕ → List ℕ → ℕ → Type 0
+FormStop mode reception register rows h r = r ≡ formStop mode reception register rows h
