@@ -2,9 +2,11 @@
 use mathlib.Core.Path.{_≡_, refl, sym, ap, _∙_}
 use mathlib.Core.List.{List}
 use Prim.Native.Nat.{ℕ}
+use Rattle.theory.specs.First.{Decided, decided, numbered}
 use Rattle.theory.specs.Stopped.{number-kept}
+use Rattle.stops.specs.Stops.{formStops}
 use Rattle.importer.specs.declared.Imported.{Imported}
-use Rattle.importer.specs.Import.{numberOf, refusal, success, written, told, answer, registerAfter, hgcAfter}
+use Rattle.importer.specs.Import.{roomStops, stops, numberOf, refusal, success, written, told, answer, registerAfter, hgcAfter}
 use Rattle.importer.specs.Promises.{Import}
 use Rattle.importer.specs.Numbers.{stop-answer, stop-register, stop-hgc, done-answer, done-register, done-hgc}
 use Rattle.demands.specs.History.{Handed, Imports}
@@ -16,6 +18,11 @@ module _ (f : Handed) (register : List ℕ) (r : Imported) (b g : List ℕ) (o :
   number-is =
       ap (λ (a : Imported). a .number) (o .0)
       ∙ number-kept (λ (a : Imported). a .number) (numberOf (f .mode) (f .reception) register (f .rows) (f .hgv) (f .hgc)) _ _ refl refl
+
+  -- and where it is 0 none does
+  pub number-decided : Decided (stops (f .mode) (f .reception) register (f .rows) (f .hgv) (f .hgc)) (r .number)
+  unfolding numberOf stops formStops roomStops numbered
+  number-decided = decided (stops (f .mode) (f .reception) register (f .rows) (f .hgv) (f .hgc)) refl (r .number) number-is
 
   -- ---- a stop
 
@@ -31,6 +38,10 @@ module _ (f : Handed) (register : List ℕ) (r : Imported) (b g : List ℕ) (o :
     pub refused-hgc : g ≡ f .hgc
     unfolding Import
     refused-hgc = o .1 .1 ∙ sym (stop-hgc (f .mode) (f .reception) register (f .rows) (f .hgv) (f .hgc) (r .number) number-is k)
+
+    pub refusal-is : (r ≡ record { number = r .number; taken = 0; rejected = 0; length = 0 }) × ((b ≡ register) × (g ≡ f .hgc))
+    unfolding refusal
+    refusal-is = (refused-answer, (refused-register, refused-hgc))
 
   -- ---- success
 

@@ -10,5 +10,6 @@ pub mod Replays
 pub mod Verdicts
 pub mod Judging
 pub mod Exact
+pub mod Demand1
 pub mod Demand2
 pub mod Demand3

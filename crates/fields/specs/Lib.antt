@@ -1,5 +1,4 @@
 pub mod Field
 pub mod Listed
-pub mod Plain
 pub mod Promises
 pub mod Outcomes

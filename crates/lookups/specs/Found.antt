@@ -27,6 +27,7 @@ use Rattle.texts.specs.Field.{field}
 use Rattle.register.specs.Register.{slotLength, records, usedIn, inOrder}
 use Rattle.register.specs.Laws.{ordered, records-chop, used-fits}
 use Rattle.register.specs.Search.{holdsPan, placeOf}
+use Rattle.lookups.specs.Promises.{ByPan, ByPlate}
 use Rattle.lookups.specs.Lookup.{unlessRefused, panRules, panNumber, panPlace, panSlot, seen, seenIn, plateRules, plateNumber, platePlace, plateSlot}
 
 -- ---- the place of a record that passes: it lies within the register, and its part is the record
@@ -108,7 +109,7 @@ module _ (b key : List ℕ) where
   pan-part h = rw (eq-eqb (panNumber b key) 0 h) (found-slot (holdsPan key) b (held (pan-found h)))
 
   -- for every number and part that the contract admits
-  module _ (number : ℕ) (part : List ℕ) (c : (number ≡ panNumber b key) × (part ≡ panSlot b key)) where
+  module _ (number : ℕ) (part : List ℕ) (c : ByPan b key part number) where
     pub by-pan-found : number ≡ 0 → PanAnswer b key part
     unfolding panSlot panPlace placeOf holdsPan
     by-pan-found z =
@@ -181,7 +182,7 @@ module _ (b p n t : List ℕ) where
   plate-part h = rw (eq-eqb (plateNumber b p n t) 0 h) (found-slot (seen p n t) b (noticed h) ∙ sym (sift-first (seen p n t) (records b)))
 
   -- for every number and part that the contract admits
-  module _ (number : ℕ) (part : List ℕ) (c : (number ≡ plateNumber b p n t) × (part ≡ plateSlot b p n t)) where
+  module _ (number : ℕ) (part : List ℕ) (c : ByPlate b p n t part number) where
     pub by-plate-found : number ≡ 0 → PlateAnswer b p n t part
     unfolding plateSlot seenIn seen
     by-plate-found z =

@@ -8,13 +8,13 @@ use Rattle.lookups.specs.Promises.{PlaceByPan, ByPan, PlaceByPlate, ByPl
 pub place-by-pan-one : (b key : List ℕ) (r s : ℕ) → PlaceByPan b key r → PlaceByPan b key s → r ≡ s
 place-by-pan-one b key r s = one-outcome
 
-pub by-pan-one : (b key : List ℕ) (given : ℕ) (part part′ : List ℕ) (number number′ : ℕ)
-    → ByPan b key given part number → ByPan b key given part′ number′ → (part ≡ part′) × (number ≡ number′)
-by-pan-one b key given part part′ number number′ h k = (one-outcome (h .1) (k .1), one-outcome (h .0) (k .0))
+pub by-pan-one : (b key : List ℕ) (part part′ : List ℕ) (number number′ : ℕ)
+    → ByPan b key part number → ByPan b key part′ number′ → (part ≡ part′) × (number ≡ number′)
+by-pan-one b key part part′ number number′ h k = (one-outcome (h .1) (k .1), one-outcome (h .0) (k .0))
 
 pub place-by-plate-one : (b p n t : List ℕ) (r s : ℕ) → PlaceByPlate b p n t r → PlaceByPlate b p n t s → r ≡ s
 place-by-plate-one b p n t r s = one-outcome
 
-pub by-plate-one : (b p n t : List ℕ) (given : ℕ) (part part′ : List ℕ) (number number′ : ℕ)
-    → ByPlate b p n t given part number → ByPlate b p n t given part′ number′ → (part ≡ part′) × (number ≡ number′)
-by-plate-one b p n t given part part′ number number′ h k = (one-outcome (h .1) (k .1), one-outcome (h .0) (k .0))
+pub by-plate-one : (b p n t : List ℕ) (part part′ : List ℕ) (number number′ : ℕ)
+    → ByPlate b p n t part number → ByPlate b p n t part′ number′ → (part ≡ part′) × (number ≡ number′)
+by-plate-one b p n t part part′ number number′ h k = (one-outcome (h .1) (k .1), one-outcome (h .0) (k .0))

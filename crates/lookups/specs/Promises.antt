@@ -9,15 +9,15 @@ abbrev pub PlaceByPan : List ℕ → List ℕ → ℕ → Type 0
 PlaceByPan b key r = r ≡ panPlace b key
 
 -- the part handed back, and the number written
-abbrev pub ByPan : List ℕ → List ℕ → ℕ → List ℕ → ℕ → Type 0
-ByPan b key _ part number =
+abbrev pub ByPan : List ℕ → List ℕ → List ℕ → ℕ → Type 0
+ByPan b key part number =
     (number ≡ panNumber b key)
     × (part ≡ panSlot b key)
 
 abbrev pub PlaceByPlate : List ℕ → List ℕ → List ℕ → List ℕ → ℕ → Type 0
 PlaceByPlate b p n t r = r ≡ platePlace b p n t
 
-abbrev pub ByPlate : List ℕ → List ℕ → List ℕ → List ℕ → ℕ → List ℕ → ℕ → Type 0
-ByPlate b p n t _ part number =
+abbrev pub ByPlate : List ℕ → List ℕ → List ℕ → List ℕ → List ℕ → ℕ → Type 0
+ByPlate b p n t part number =
     (number ≡ plateNumber b p n t)
     × (part ≡ plateSlot b p n t)

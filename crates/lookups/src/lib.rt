@@ -84,7 +84,7 @@ pub fn place_by_pan(b: &[u8], key: &[u8]) -> usize
 }
 
 pub fn by_pan<'a>(b: &'a [u8], key: &[u8], number: &mut u64) -> &'a [u8]
-    ensures { λ r. ⌜ ByPan (now (b .entry)) (now (key .entry)) (now (number .entry)) (now r) (now (number .exit)) ⌝ }
+    ensures { λ r. ⌜ ByPan (now (b .entry)) (now (key .entry)) (now r) (now (number .exit)) ⌝ }
 {
     let answer = pan_number(b, key);
     *number = answer;
@@ -113,7 +113,7 @@ pub fn place_by_plate(b: &[u8], p: &[u8], n: &[u8], t: &[u8]) -> usize
 }
 
 pub fn by_plate<'a>(b: &'a [u8], p: &[u8], n: &[u8], t: &[u8], number: &mut u64) -> &'a [u8]
-    ensures { λ r. ⌜ ByPlate (now (b .entry)) (now (p .entry)) (now (n .entry)) (now (t .entry)) (now (number .entry)) (now r) (now (number .exit)) ⌝ }
+    ensures { λ r. ⌜ ByPlate (now (b .entry)) (now (p .entry)) (now (n .entry)) (now (t .entry)) (now r) (now (number .exit)) ⌝ }
 {
     let answer = plate_number(b, p, n, t);
     *number = answer;

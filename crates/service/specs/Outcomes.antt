@@ -18,14 +18,14 @@ module _ (mode : ℕ) (reception register rows h hgc : List ℕ) (n n′ t t′ 
   graftspindle-import-one =
       import-one mode reception register rows h hgc (answered n t r l) (answered n′ t′ r′ l′) b b′ g g′
 
-module _ (b key : List ℕ) (i j n n′ s s′ l l′ : ℕ) where
-  pub graftspindle-by-pan-one : GraftspindleByPan b key i j n s l → GraftspindleByPan b key i j n′ s′ l′
+module _ (b key : List ℕ) (n n′ s s′ l l′ : ℕ) where
+  pub graftspindle-by-pan-one : GraftspindleByPan b key n s l → GraftspindleByPan b key n′ s′ l′
       → (n ≡ n′) × ((s ≡ s′) × (l ≡ l′))
   graftspindle-by-pan-one h k =
       (one-outcome (h .0) (k .0), (one-outcome (h .1 .0) (k .1 .0), one-outcome (h .1 .1) (k .1 .1)))
 
-module _ (b p n t : List ℕ) (i j m m′ s s′ l l′ : ℕ) where
-  pub graftspindle-by-plate-one : GraftspindleByPlate b p n t i j m s l → GraftspindleByPlate b p n t i j m′ s′ l′
+module _ (b p n t : List ℕ) (m m′ s s′ l l′ : ℕ) where
+  pub graftspindle-by-plate-one : GraftspindleByPlate b p n t m s l → GraftspindleByPlate b p n t m′ s′ l′
       → (m ≡ m′) × ((s ≡ s′) × (l ≡ l′))
   graftspindle-by-plate-one h k =
       (one-outcome (h .0) (k .0), (one-outcome (h .1 .0) (k .1 .0), one-outcome (h .1 .1) (k .1 .1)))

@@ -6,14 +6,14 @@ use Prim.Native.Nat.{ℕ}
 use Rattle.lookups.specs.Lookup.{panNumber, plateNumber}
 use Rattle.service.specs.Answers.{panStart, panLength, plateStart, plateLength}
 
-abbrev pub GraftspindleByPan : List ℕ → List ℕ → ℕ → ℕ → ℕ → ℕ → ℕ → Type 0
-GraftspindleByPan b key _ _ number start size =
+abbrev pub GraftspindleByPan : List ℕ → List ℕ → ℕ → ℕ → ℕ → Type 0
+GraftspindleByPan b key number start size =
     (number ≡ panNumber b key)
     × ((start ≡ panStart b key)
     × (size ≡ panLength b key))
 
-abbrev pub GraftspindleByPlate : List ℕ → List ℕ → List ℕ → List ℕ → ℕ → ℕ → ℕ → ℕ → ℕ → Type 0
-GraftspindleByPlate b p n t _ _ number start size =
+abbrev pub GraftspindleByPlate : List ℕ → List ℕ → List ℕ → List ℕ → ℕ → ℕ → ℕ → Type 0
+GraftspindleByPlate b p n t number start size =
     (number ≡ plateNumber b p n t)
     × ((start ≡ plateStart b p n t)
     × (size ≡ plateLength b p n t))

@@ -47,7 +47,7 @@ pub extern "C" fn graftspindle_by_pan(
     start: &mut u64,
     length: &mut u64,
 ) -> u64
-    ensures { λ r. ⌜ GraftspindleByPan (now (register .entry)) (now (pan .entry)) (now (start .entry)) (now (length .entry)) r (now (start .exit)) (now (length .exit)) ⌝ }
+    ensures { λ r. ⌜ GraftspindleByPan (now (register .entry)) (now (pan .entry)) r (now (start .exit)) (now (length .exit)) ⌝ }
 {
     let mut number: u64 = 0;
     let slot = lookups::by_pan(register, pan, &mut number);
@@ -67,7 +67,7 @@ pub extern "C" fn graftspindle_by_plate(
     start: &mut u64,
     length: &mut u64,
 ) -> u64
-    ensures { λ r. ⌜ GraftspindleByPlate (now (register .entry)) (now (plate .entry)) (now (nationality .entry)) (now (time .entry)) (now (start .entry)) (now (length .entry)) r (now (start .exit)) (now (length .exit)) ⌝ }
+    ensures { λ r. ⌜ GraftspindleByPlate (now (register .entry)) (now (plate .entry)) (now (nationality .entry)) (now (time .entry)) r (now (start .exit)) (now (length .exit)) ⌝ }
 {
     let mut number: u64 = 0;
     let slot = lookups::by_plate(register, plate, nationality, time, &mut number);

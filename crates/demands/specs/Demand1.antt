@@ -1,0 +1,84 @@
+-- Demand 1: total. Each sentence of it, and under it the theorems that say so, of any outcome that the contract of each entry point
+-- admits. A refusal is an answer whose number is not 0. Assumes nothing.
+use mathlib.Core.Path.{_≡_, refl}
+use mathlib.Core.List.{List, [], _++_}
+use Prim.Native.Nat.{ℕ}
+use Rattle.theory.specs.First.{Decided, decided}
+use Rattle.lookups.specs.Lookup.{panRules, plateRules}
+use Rattle.lookups.specs.Promises.{ByPan, ByPlate}
+use Rattle.lookups.specs.Outcomes.{by-pan-one, by-plate-one}
+use Rattle.lookups.specs.Found.{by-pan-refused, by-plate-refused}
+use Rattle.importer.specs.declared.Imported.{Imported}
+use Rattle.importer.specs.Import.{stops}
+use Rattle.importer.specs.Promises.{Import}
+use Rattle.importer.specs.Outcomes.{import-one}
+use Rattle.provider.specs.declared.Counted.{Counted}
+use Rattle.provider.specs.ReadBack.{fileStops, blockStops}
+use Rattle.provider.specs.Update.{copyStops, roomStops}
+use Rattle.provider.specs.Promises.{ReadBack, Update}
+use Rattle.provider.specs.Outcomes.{read-back-one, update-one}
+use Rattle.demands.specs.History.{Handed, Imports}
+use Rattle.demands.specs.Imports as imports
+use Rattle.demands.specs.Answered as answered
+
+-- "The import, the lookups and the provider's update take every file, table, register and buffer, of every length, and end."
+-- The entry points have no `requires`, and a function is proved only if it ends: so whatever is handed over there is an outcome,
+pub import-ends : (f : Handed) (register : List ℕ) → (r : Imported) × (b : List ℕ) × (g : List ℕ) × Imports f register r b g
+unfolding Import
+import-ends f register = (_, _, _, (refl, (refl, refl)))
+
+pub by-pan-ends : (register key : List ℕ) → (part : List ℕ) × (number : ℕ) × ByPan register key part number
+by-pan-ends register key = (_, _, (refl, refl))
+
+pub by-plate-ends : (register plate nationality time : List ℕ) → (part : List ℕ) × (number : ℕ) × ByPlate register plate nationality time part number
+by-plate-ends register plate nationality time = (_, _, (refl, refl))
+
+pub read-back-ends : (hgv hgc block : List ℕ) → (r : Counted) × (v : List ℕ) × ReadBack hgv hgc block r v
+unfolding ReadBack
+read-back-ends hgv hgc block = (_, _, (refl, refl))
+
+pub update-ends : (mode : ℕ) (copy hgv hgc : List ℕ) → (r : Counted) × (c : List ℕ) × Update mode copy hgv hgc r c
+unfolding Update
+update-ends mode copy hgv hgc = (_, _, (refl, refl))
+
+-- and only one: `import-one`, `by-pan-one`, `by-plate-one`, `read-back-one`, `update-one`, each of the name that the contract cites
+
+-- "What is bad is refused by its number in the definition, tested here and not by the caller."
+-- The number is that of a stop that holds where none in front of it does; it is 0 exactly where no stop holds
+pub import-decided : (f : Handed) (register : List ℕ) (r : Imported) (b g : List ℕ) → Imports f register r b g
+    → Decided (stops (f .mode) (f .reception) register (f .rows) (f .hgv) (f .hgc)) (r .number)
+import-decided f register r b g o = imports.number-decided f register r b g o
+
+pub by-pan-decided : (register key part : List ℕ) (number : ℕ) → ByPan register key part number → Decided (panRules register key) number
+by-pan-decided register key part number o = answered.pan-decided register key part number o
+
+pub by-plate-decided : (register plate nationality time part : List ℕ) (number : ℕ) → ByPlate register plate nationality time part number
+    → Decided (plateRules register plate nationality time) number
+by-plate-decided register plate nationality time part number o = answered.plate-decided register plate nationality time part number o
+
+pub read-back-decided : (hgv hgc block : List ℕ) (r : Counted) (v : List ℕ) → ReadBack hgv hgc block r v → Decided (fileStops hgv ++ blockStops hgv hgc block) (r .number)
+read-back-decided hgv hgc block r v o = answered.read-decided hgv hgc block r v o
+
+pub update-decided : (mode : ℕ) (copy hgv hgc : List ℕ) (r : Counted) (c : List ℕ) → Update mode copy hgv hgc r c
+    → Decided (copyStops mode copy hgv ++ roomStops mode copy hgv hgc) (r .number)
+update-decided mode copy hgv hgc r c o = answered.update-decided mode copy hgv hgc r c o
+
+-- "A refusal returns zero counts, and every lent byte stays."
+pub import-refusal : (f : Handed) (register : List ℕ) (r : Imported) (b g : List ℕ) → Imports f register r b g → (r .number ≡ 0 → ⊥)
+    → (r ≡ record { number = r .number; taken = 0; rejected = 0; length = 0 }) × ((b ≡ register) × (g ≡ f .hgc))
+import-refusal f register r b g o k = imports.refusal-is f register r b g o k
+
+pub read-back-refusal : (hgv hgc block : List ℕ) (r : Counted) (v : List ℕ) → ReadBack hgv hgc block r v → (r .number ≡ 0 → ⊥)
+    → (r ≡ record { number = r .number; taken = 0; rejected = 0 }) × (v ≡ block)
+read-back-refusal hgv hgc block r v o k = answered.read-refusal hgv hgc block r v o k
+
+pub update-refusal : (mode : ℕ) (copy hgv hgc : List ℕ) (r : Counted) (c : List ℕ) → Update mode copy hgv hgc r c → (r .number ≡ 0 → ⊥)
+    → (r ≡ record { number = r .number; taken = 0; rejected = 0 }) × (c ≡ copy)
+update-refusal mode copy hgv hgc r c o k = answered.update-refusal mode copy hgv hgc r c o k
+
+-- a lookup is lent its register to read only; its refusal hands nothing back
+pub by-pan-refusal : (register key part : List ℕ) (number : ℕ) → ByPan register key part number → (number ≡ 0 → ⊥) → part ≡ []
+by-pan-refusal register key part number o k = by-pan-refused register key number part o k
+
+pub by-plate-refusal : (register plate nationality time part : List ℕ) (number : ℕ) → ByPlate register plate nationality time part number → (number ≡ 0 → ⊥) → part ≡ []
+by-plate-refusal register plate nationality time part number o k = by-plate-refused register plate nationality time number part o k
