@@ -9,16 +9,18 @@ use borrow.Author.Tests.{eq-eqb, ne-eqb}
 use Rattle.theory.specs.Count.{bump}
 use Rattle.theory.specs.Keep.{onto, sift}
 use Rattle.theory.specs.Pick.{good, pick}
-use Rattle.theory.specs.Parts.{chop, partAt, length-chop}
-use Rattle.theory.specs.Scan.{scan, takenNext, Judged, judged-start, judged-turn, judged-end}
+use Rattle.theory.specs.Parts.{chop, partAt}
+use Rattle.theory.specs.laws.Parts.{length-chop}
+use Rattle.theory.specs.Scan.{scan, takenNext}
+use Rattle.theory.specs.laws.Scan.{Judged, judged-start, judged-turn, judged-end}
 use Rattle.closing.specs.Closing.{kept, closedUp}
 use Rattle.register.specs.Register.{slotLength, slotsMost, slotsIn, slotsOf, records, usedIn, usedPart, inOrder}
 use Rattle.register.specs.Search.{ofActor}
-use Rattle.register.specs.Laws.{ordered, used-most, used-fits, records-chop, slots-used}
+use Rattle.register.specs.laws.Register.{ordered, used-most, used-fits, records-chop, slots-used}
 use Rattle.holdings.specs.Holdings.{others, isFull}
-use Rattle.upkeep.specs.Stays.{as-it-is, closed}
-use Rattle.applying.specs.Follows.{pick-others}
-use Rattle.applying.specs.Steps.{markOf, prepared, Left}
+use Rattle.upkeep.specs.laws.Stays.{as-it-is, closed}
+use Rattle.applying.specs.laws.Follows.{pick-others}
+use Rattle.applying.specs.laws.Steps.{markOf, prepared, Left}
 
 -- marks that ask nothing of the slots before
 scan-map : (g : List ℕ → ℕ) (ts ls : List (List ℕ)) → scan (λ _ l. g l) ts ls ≡ map g ls

@@ -9,17 +9,20 @@ use lib.Dec.{eqb, ltb}
 use lib.ListN.{length, take, getD, replicate, length-append, length-set, getD-replicate}
 use lib.Seq.{getD-take}
 use borrow.Author.Tests.{eq-eqb, ne-eqb, ltb-true, ltb-false, le-ltb}
-use Rattle.theory.specs.Same.{eqs-true}
-use Rattle.theory.specs.Each.{Each, each-head, each-tail, each-map}
+use Rattle.theory.specs.laws.Same.{eqs-true}
+use Rattle.theory.specs.Each.{Each}
+use Rattle.theory.specs.laws.Each.{each-head, each-tail, each-map}
 use Rattle.theory.specs.Count.{bump}
-use Rattle.theory.specs.Table.{length-cut}
+use Rattle.theory.specs.laws.Table.{length-cut}
 use Rattle.theory.specs.Walk.{some}
 use Rattle.theory.specs.Keep.{onto}
-use Rattle.theory.specs.Pick.{good, pick, good-no}
+use Rattle.theory.specs.Pick.{good, pick}
+use Rattle.theory.specs.laws.Pick.{good-no}
 use Rattle.theory.specs.Parts.{chop, partAt}
-use Rattle.theory.specs.Place.{place, place-most, place-hit, place-some}
-use Rattle.theory.specs.Scan.{some-key}
-use Rattle.theory.specs.Among.{takenFrom, taken-start, taken-step, taken-end}
+use Rattle.theory.specs.Place.{place}
+use Rattle.theory.specs.laws.Place.{place-most, place-hit, place-some}
+use Rattle.theory.specs.laws.Scan.{some-key}
+use Rattle.theory.specs.laws.Among.{takenFrom, taken-start, taken-step, taken-end}
 use Rattle.theory.specs.Put.{putPart}
 use Rattle.columns.specs.Columns.{panOf}
 use Rattle.lines.specs.Rules.{recordHolds}
@@ -27,15 +30,16 @@ use Rattle.lines.specs.End.{recordOf}
 use Rattle.records.specs.Slot.{putRecord}
 use Rattle.register.specs.Register.{slotLength, slotsMost, slotsIn, slotsOf, records, usedIn, usedPart}
 use Rattle.register.specs.Search.{holdsPan, placeOf}
-use Rattle.register.specs.Laws.{ordered, used-most, used-fits, used-slots, slots-used}
+use Rattle.register.specs.laws.Register.{ordered, used-most, used-fits, used-slots, slots-used}
 use Rattle.holdings.specs.Holdings.{stored, storedAll, isFull, holdings}
 use Rattle.holdings.specs.AtOnce.{placesIn}
-use Rattle.holdings.specs.Storing.{stored-held, stored-new, all-grows, new-others}
-use Rattle.upkeep.specs.Stays.{Holds, written-length, written-used, written-put, as-it-is, replaced, added}
+use Rattle.holdings.specs.laws.Storing.{stored-held, stored-new, all-grows, new-others}
+use Rattle.upkeep.specs.Holds.{Holds}
+use Rattle.upkeep.specs.laws.Stays.{written-length, written-used, written-put, as-it-is, replaced, added}
 use Rattle.applying.specs.Fit.{Fit}
-use Rattle.applying.specs.Standing.{Stands, Standing, standing-turn, Sought}
-use Rattle.applying.specs.Steps.{prepared, storedIf, Left, Ready, Storing}
-use Rattle.applying.specs.Taken.{record-pan, prepared-stored}
+use Rattle.applying.specs.laws.Standing.{Stands, Standing, standing-turn, Sought}
+use Rattle.applying.specs.laws.Steps.{prepared, storedIf, Left, Ready, Storing}
+use Rattle.applying.specs.laws.Taken.{record-pan, prepared-stored}
 
 -- ---- its slot
 

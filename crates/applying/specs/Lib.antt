@@ -1,8 +1,3 @@
 pub mod Fit
-pub mod Steps
-pub mod Standing
-pub mod Taken
-pub mod Others
-pub mod Follows
 pub mod Promises
-pub mod Outcomes
+pub mod laws

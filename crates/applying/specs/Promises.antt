@@ -1,7 +1,7 @@
 -- What the public function of this crate promises. Assumes nothing.
 use mathlib.Core.List.{List}
 use Prim.Native.Nat.{ℕ}
-use Rattle.upkeep.specs.Stays.{Holds}
+use Rattle.upkeep.specs.Holds.{Holds}
 use Rattle.register.specs.Register.{slotsIn, records}
 use Rattle.holdings.specs.Holdings.{takenIn, holdings}
 

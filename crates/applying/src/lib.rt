@@ -17,8 +17,8 @@ ghost use Rattle.register.specs.Search.{placeOf};
 ghost use Rattle.holdings.specs.Holdings.{takenIn, stored, storedAll, others, isFull};
 ghost use Rattle.holdings.specs.AtOnce.{placesIn};
 ghost use Rattle.applying.specs.Fit.{Fit};
-ghost use Rattle.applying.specs.Standing.{Stands, Standing, Sought};
-ghost use Rattle.applying.specs.Steps.{markOf, prepared, storedIf, Left, Stored, Ready, Storing};
+ghost use Rattle.applying.specs.laws.Standing.{Stands, Standing, Sought};
+ghost use Rattle.applying.specs.laws.Steps.{markOf, prepared, storedIf, Left, Stored, Ready, Storing};
 ghost use Rattle.applying.specs.Promises.{Apply};
 
 const SLOT: usize = 128;

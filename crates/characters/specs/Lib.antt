@@ -1,4 +1,3 @@
 pub mod Characters
-pub mod Filled
 pub mod Promises
-pub mod Outcomes
+pub mod laws

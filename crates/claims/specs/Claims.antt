@@ -6,7 +6,7 @@ use mathlib.Core.List.{List}
 use lib.Dec.{eqb}
 use Rattle.theory.specs.Text.{bytes}
 use Rattle.theory.specs.Same.{eqs}
-use Rattle.texts.specs.Field.{field, listed}
+use Rattle.texts.specs.Field.{listed}
 use Rattle.numbers.specs.Number.{number}
 use Rattle.hgv.specs.Layout.{linesIn}
 use Rattle.header.specs.Header.{receiver, count, version}

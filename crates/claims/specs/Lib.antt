@@ -1,3 +1,3 @@
 pub mod Claims
 pub mod Promises
-pub mod Outcomes
+pub mod laws

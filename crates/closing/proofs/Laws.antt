@@ -12,8 +12,9 @@ use Rattle.theory.specs.Count.{bump}
 use Rattle.theory.specs.Parts.{chop, partAt}
 use Rattle.theory.specs.Pick.{good, pick}
 use Rattle.theory.specs.Put.{putPart}
-use Rattle.theory.specs.CloseUp.{Closing, Freeing, moved, closing-start, closing-turn, closing-count, closed-up}
-use Rattle.closing.specs.Closing.{kept, closedUp, stays, kept-start, kept-next}
+use Rattle.theory.specs.laws.CloseUp.{Closing, Freeing, moved, closing-start, closing-turn, closing-count, closed-up}
+use Rattle.closing.specs.Closing.{kept, closedUp}
+use Rattle.closing.specs.laws.Closing.{stays, kept-start, kept-next}
 
 good-is : (m : ℕ) → eqb m 0 ≡ good m
 unfolding good

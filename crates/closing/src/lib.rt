@@ -7,8 +7,8 @@ ghost use Rattle.theory.specs.Parts.{chop, partAt};
 ghost use Rattle.theory.specs.Pick.{good, pick};
 ghost use Rattle.theory.specs.Put.{putPart};
 ghost use Rattle.theory.specs.Pad.{free};
-ghost use Rattle.theory.specs.CloseUp.{Closing, Freeing, moved};
-ghost use Rattle.closing.specs.Closing.{stays};
+ghost use Rattle.theory.specs.laws.CloseUp.{Closing, Freeing, moved};
+ghost use Rattle.closing.specs.laws.Closing.{stays};
 ghost use Rattle.closing.specs.Promises.{CloseUp};
 
 const SLOT: usize = 128;

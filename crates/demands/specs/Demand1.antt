@@ -3,23 +3,24 @@
 use mathlib.Core.Path.{_≡_, refl}
 use mathlib.Core.List.{List, [], _++_}
 use Prim.Native.Nat.{ℕ}
-use Rattle.theory.specs.First.{Decided, decided}
+use Rattle.theory.specs.First.{Decided}
+use Rattle.theory.specs.laws.First.{decided}
 use Rattle.lookups.specs.Lookup.{panRules, plateRules}
 use Rattle.lookups.specs.Promises.{ByPan, ByPlate}
-use Rattle.lookups.specs.Outcomes.{by-pan-one, by-plate-one}
-use Rattle.lookups.specs.Found.{by-pan-refused, by-plate-refused}
+use Rattle.lookups.specs.laws.Outcomes.{by-pan-one, by-plate-one}
+use Rattle.lookups.specs.laws.Found.{by-pan-refused, by-plate-refused}
 use Rattle.importer.specs.declared.Imported.{Imported}
 use Rattle.importer.specs.Import.{stops}
 use Rattle.importer.specs.Promises.{Import}
-use Rattle.importer.specs.Outcomes.{import-one}
+use Rattle.importer.specs.laws.Outcomes.{import-one}
 use Rattle.provider.specs.declared.Counted.{Counted}
 use Rattle.provider.specs.ReadBack.{fileStops, blockStops}
 use Rattle.provider.specs.Update.{copyStops, roomStops}
 use Rattle.provider.specs.Promises.{ReadBack, Update}
-use Rattle.provider.specs.Outcomes.{read-back-one, update-one}
+use Rattle.provider.specs.laws.Outcomes.{read-back-one, update-one}
 use Rattle.demands.specs.History.{Handed, Imports}
-use Rattle.demands.specs.Imports as imports
-use Rattle.demands.specs.Answered as answered
+use Rattle.demands.specs.laws.Imports as imports
+use Rattle.demands.specs.laws.Answered as answered
 
 -- "The import, the lookups and the provider's update take every file, table, register and buffer, of every length, and end."
 -- The entry points have no `requires`, and a function is proved only if it ends: so whatever is handed over there is an outcome,

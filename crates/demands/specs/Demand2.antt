@@ -5,7 +5,8 @@ use mathlib.Core.Bool.{true, false}
 use mathlib.Core.List.{List, [], _++_}
 use Prim.Native.Nat.{ℕ, _+_, _≤_, _<_}
 use lib.ListN.{length, take, drop, getD}
-use Rattle.theory.specs.First.{Fits, first-fits}
+use Rattle.theory.specs.First.{Fits}
+use Rattle.theory.specs.laws.First.{first-fits}
 use Rattle.theory.specs.Parts.{partAt}
 use Rattle.theory.specs.Pick.{good, bad, pick}
 use Rattle.theory.specs.Tally.{tally}
@@ -24,8 +25,8 @@ use Rattle.provider.specs.declared.Counted.{Counted}
 use Rattle.provider.specs.Promises.{ReadBack}
 use Rattle.demands.specs.History.{Handed, Imports}
 use Rattle.demands.specs.Verdicts.{takenBefore, Verdicts, Unbroken}
-use Rattle.demands.specs.Judging.{verdicts-there, verdicts-only, unbroken, none-fits}
-use Rattle.demands.specs.Exact as laws
+use Rattle.demands.specs.laws.Judging.{verdicts-there, verdicts-only, unbroken, none-fits}
+use Rattle.demands.specs.laws.Exact as laws
 
 -- "Each line is taken, or rejected with the first reason that fits."
 -- The lines of a file have verdicts, and no others

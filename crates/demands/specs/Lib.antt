@@ -1,15 +1,7 @@
-pub mod Reasons
-pub mod ReadBack
-pub mod Read
 pub mod Own
-pub mod Mirror
 pub mod History
-pub mod Imports
-pub mod Answered
-pub mod Replays
 pub mod Verdicts
-pub mod Judging
-pub mod Exact
 pub mod Demand1
 pub mod Demand2
 pub mod Demand3
+pub mod laws

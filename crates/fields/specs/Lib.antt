@@ -1,4 +1,3 @@
 pub mod Field
-pub mod Listed
 pub mod Promises
-pub mod Outcomes
+pub mod laws

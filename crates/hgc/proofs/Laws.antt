@@ -7,22 +7,24 @@ use native.Mathlib.Omega.{arith}
 use lib.ListN.{length, drop, getD, length-append}
 use Rattle.theory.specs.Text.{bytes}
 use Rattle.theory.specs.Keep.{onto}
-use Rattle.theory.specs.Parts.{chop, partAt, length-chop, length-part, part-fits}
+use Rattle.theory.specs.Parts.{chop, partAt}
+use Rattle.theory.specs.laws.Parts.{length-chop, length-part, part-fits}
 use Rattle.theory.specs.Pick.{good, bad}
 use Rattle.theory.specs.Tally.{tally}
-use Rattle.theory.specs.Join.{flat, flat-append, chop-snoc, each-chop}
+use Rattle.theory.specs.Join.{flat}
+use Rattle.theory.specs.laws.Join.{flat-append, chop-snoc, each-chop}
 use Rattle.texts.specs.Field.{field, lineEnd}
-use Rattle.texts.specs.Laws.{field-length}
+use Rattle.texts.specs.laws.Field.{field-length}
 use Rattle.writing.specs.Put.{putField}
-use Rattle.writing.specs.Laid.{Laid, laid, laid-start, laid-join, laid-next, laid-front, laid-length}
+use Rattle.writing.specs.laws.Laid.{Laid, laid, laid-start, laid-join, laid-next, laid-front, laid-length}
 use Rattle.numbers.specs.Number.{decimal}
-use Rattle.numbers.specs.Laws.{length-decimal}
+use Rattle.numbers.specs.laws.Number.{length-decimal}
 use Rattle.columns.specs.Columns.{text}
 use Rattle.hgv.specs.Layout.{linesIn, lengthHolds, body, linesOf}
-use Rattle.hgv.specs.Laws.{lines-room, each-line, length-least}
+use Rattle.hgv.specs.laws.Layout.{lines-room, each-line, length-least}
 use Rattle.header.specs.Header.{sender, listSequence}
-use Rattle.hgc.specs.Confirmation.{confirmationLength, zeros, outcome, names, counts, head, answer, said, answers, foot, confirmation}
-use Rattle.hgc.specs.Laws.{length-zeros, length-outcome, length-names, length-counts, length-answer, length-foot, answers-none, answers-most, answers-more, length-answers}
+use Rattle.hgc.specs.Confirmation.{confirmationLength, zeros, outcome, names, counts, head, answer, answers, foot, confirmation}
+use Rattle.hgc.specs.laws.Confirmation.{said, length-zeros, length-outcome, length-names, length-counts, length-answer, length-foot, answers-none, answers-most, answers-more, length-answers}
 
 -- a field, as its reader has it
 pub wide : (from to : ℕ) (l f : List ℕ) → f ≡ field from to l → 1 ≤ from → to ≤ length l → length f ≡ to + 1 - from

@@ -47,10 +47,6 @@ head reception h taken rejected = names reception h ++ counts taken rejected
 unfoldable pub answer : ℕ → List ℕ → List ℕ
 answer reason l = bytes "1" ++ text l ++ decimal 2 reason ++ lineEnd
 
--- what there is of a line: its answer, and nothing where it was not rejected
-unfoldable pub said : ℕ → List ℕ → List ℕ
-said v l = flat (onto (bad v) (answer v l) [])
-
 -- per rejected line, in file order
 unfoldable pub answers : List ℕ → List (List ℕ) → List (List ℕ)
 answers [] ls = []

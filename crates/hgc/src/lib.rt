@@ -10,9 +10,10 @@ ghost use Rattle.theory.specs.Pick.{good, bad};
 ghost use Rattle.theory.specs.Tally.{tally};
 ghost use Rattle.theory.specs.Join.{flat};
 ghost use Rattle.writing.specs.Put.{putField};
-ghost use Rattle.writing.specs.Laid.{Laid};
+ghost use Rattle.writing.specs.laws.Laid.{Laid};
 ghost use Rattle.hgv.specs.Layout.{headerLength, lineLength, footerLength, linesMost, linesIn, lengthHolds};
-ghost use Rattle.hgc.specs.Confirmation.{headLength, answerLength, confirmationLength, zeros, outcome, names, counts, answer, said, answers, foot};
+ghost use Rattle.hgc.specs.Confirmation.{headLength, answerLength, confirmationLength, zeros, outcome, names, counts, answer, answers, foot};
+ghost use Rattle.hgc.specs.laws.Confirmation.{said};
 ghost use Rattle.hgc.specs.Promises.{Write, LengthFor};
 
 const HEADER: usize = 110;

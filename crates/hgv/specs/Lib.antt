@@ -1,4 +1,3 @@
 pub mod Layout
-pub mod Laws
 pub mod Promises
-pub mod Outcomes
+pub mod laws

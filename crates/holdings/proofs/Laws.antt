@@ -9,18 +9,21 @@ use lib.ListN.{length}
 use borrow.Author.Tests.{lt-ltb, le-ltb, le-leb, lt-leb, eq-eqb, ne-eqb}
 use Rattle.theory.specs.Walk.{some}
 use Rattle.theory.specs.Count.{bump}
-use Rattle.theory.specs.Keep.{sift, sift-counts}
-use Rattle.theory.specs.Parts.{chop, length-chop}
-use Rattle.theory.specs.Pick.{good, good-no, pick}
-use Rattle.theory.specs.Tally.{tally, tally-pick, tallies}
-use Rattle.theory.specs.Place.{place-some}
+use Rattle.theory.specs.Keep.{sift}
+use Rattle.theory.specs.laws.Keep.{sift-counts}
+use Rattle.theory.specs.Parts.{chop}
+use Rattle.theory.specs.laws.Parts.{length-chop}
+use Rattle.theory.specs.Pick.{good, pick}
+use Rattle.theory.specs.laws.Pick.{good-no}
+use Rattle.theory.specs.Tally.{tally}
+use Rattle.theory.specs.laws.Tally.{tally-pick, tallies}
+use Rattle.theory.specs.laws.Place.{place-some}
 use Rattle.columns.specs.Columns.{panOf}
 use Rattle.register.specs.Register.{slotLength, slotsMost, slotsIn, slotsOf, records, usedIn, usedPart}
-use Rattle.register.specs.Laws.{used-slots, slots-used}
+use Rattle.register.specs.laws.Register.{used-slots, slots-used}
 use Rattle.register.specs.Search.{holdsPan, placeOf, ofActor, countOf}
 use Rattle.holdings.specs.Holdings.{others, isFull}
-use Rattle.holdings.specs.Storing.{isNew}
-use Rattle.holdings.specs.Room.{usedAfter}
+use Rattle.holdings.specs.Room.{isNew, usedAfter}
 use Rattle.holdings.specs.AtOnce.{atOnce}
 
 pub length-slots : (b : List ℕ) → length (slotsOf b) ≡ slotsIn b

@@ -1,54 +1,19 @@
 -- How many slots are used when lines have been applied, as it is reckoned before any is: what stop 33 looks at.
 -- Assumes nothing.
-use mathlib.Core.Path.{_≡_, refl, sym, ap, ap₂, _∙_}
-use mathlib.Core.Bool.{Bool, true, false, not, cond}
-use mathlib.Core.List.{List, [], _∷_, _++_, map}
-use Prim.Native.Nat.{ℕ, suc, _+_, _≤_}
-use lib.ListN.{length, length-append, length-map}
-use Rattle.theory.specs.Each.{Each, none, more}
+use mathlib.Core.Bool.{cond, Bool, not}
+use mathlib.Core.List.{List}
+use Prim.Native.Nat.{ℕ, _+_}
+use lib.ListN.{length}
+use Rattle.theory.specs.Keep.{sift}
 use Rattle.theory.specs.Walk.{some}
-use Rattle.theory.specs.Count.{bump}
-use Rattle.theory.specs.Keep.{sift, length-onto}
-use Rattle.theory.specs.Distinct.{distinct}
 use Rattle.columns.specs.Columns.{panOf}
-use Rattle.lines.specs.End.{recordOf}
-use Rattle.register.specs.Register.{slotsOf}
 use Rattle.register.specs.Search.{holdsPan}
-use Rattle.holdings.specs.Holdings.{takenIn, storedAll, others, replacedAll, isFull, holdings}
-use Rattle.holdings.specs.Storing.{isNew, length-all}
+use Rattle.holdings.specs.Holdings.{others, isFull}
+
+-- is the PAN of x new to R
+abbrev pub isNew : List (List ℕ) → List ℕ → Bool
+isNew R x = not (some (holdsPan (panOf x)) R)
 
 -- full: the others' and the lines; incremental: those held and the lines that are new
 unfoldable pub usedAfter : ℕ → List ℕ → List (List ℕ) → List (List ℕ) → ℕ
 usedAfter mode who R ls = cond (isFull mode) (length (others who R) + length ls) (length R + length (sift (isNew R) ls))
-
--- r counts the lines taken that are new to the slots
-abbrev pub CountsNew : List ℕ → List ℕ → List ℕ → ℕ → Type 0
-CountsNew held lines vs r =
-    (r ≡ length (sift (isNew (slotsOf held)) (takenIn vs lines)))
-    × (r ≤ length vs)
-
-module _ (reception : List ℕ) where
-  record-pans : {ls : List (List ℕ)} → Each (λ l. panOf (recordOf reception l) ≡ panOf l) ls → map panOf (map (recordOf reception) ls) ≡ map panOf ls
-  record-pans none = refl
-  record-pans (more h hs) = ap₂ _∷_ h (record-pans hs)
-
-  new-records : (R : List (List ℕ)) {ls : List (List ℕ)} → Each (λ l. panOf (recordOf reception l) ≡ panOf l) ls
-      → length (sift (isNew R) (map (recordOf reception) ls)) ≡ length (sift (isNew R) ls)
-  unfolding sift
-  new-records R none = refl
-  new-records R (more {x = l} {xs = ls} h hs) =
-      length-onto (isNew R (recordOf reception l)) (recordOf reception l) (sift (isNew R) (map (recordOf reception) ls))
-      ∙ rw (h, new-records R hs) (sym (length-onto (isNew R l) l (sift (isNew R) ls)))
-
-  -- it is the number of records that follow
-  pub used-after : (mode : ℕ) (who : List ℕ) (R ls : List (List ℕ)) → Each (λ l. panOf (recordOf reception l) ≡ panOf l) ls → distinct (map panOf ls) ≡ true
-      → usedAfter mode who R ls ≡ length (holdings mode who reception R ls)
-  unfolding usedAfter holdings replacedAll
-  used-after mode who R ls p d = go (isFull mode)
-    where
-      xs : List (List ℕ)
-      xs = map (recordOf reception) ls
-
-      go : (b : Bool) → cond b (length (others who R) + length ls) (length R + length (sift (isNew R) ls)) ≡ length (cond b (others who R ++ xs) (storedAll R xs))
-      go true = sym (length-append (others who R) xs ∙ rw (length-map ls (recordOf reception)))
-      go false = sym (length-all xs R (rw (record-pans p) d) ∙ rw (new-records R p))

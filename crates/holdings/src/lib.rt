@@ -9,9 +9,9 @@ ghost use Rattle.hgv.specs.Layout.{lineLength};
 ghost use Rattle.columns.specs.Columns.{panOf};
 ghost use Rattle.register.specs.Register.{slotsMost, slotsIn, slotsOf};
 ghost use Rattle.register.specs.Search.{placeOf};
-ghost use Rattle.holdings.specs.Storing.{isNew};
-ghost use Rattle.holdings.specs.Room.{CountsNew};
-ghost use Rattle.holdings.specs.AtOnce.{Told};
+ghost use Rattle.holdings.specs.Room.{isNew};
+ghost use Rattle.holdings.specs.laws.Room.{CountsNew};
+ghost use Rattle.holdings.specs.laws.AtOnce.{Told};
 ghost use Rattle.holdings.specs.Promises.{AtOnce, Places, PlaceAt, UsedAfter};
 
 const FULL: u64 = 2;

@@ -9,24 +9,25 @@ use lib.ListN.{length, drop}
 use Rattle.theory.specs.First.{choose, first}
 use Rattle.theory.specs.Parts.{chop}
 use Rattle.theory.specs.Pick.{good, bad, pick}
-use Rattle.theory.specs.Tally.{tally, tallies}
+use Rattle.theory.specs.Tally.{tally}
+use Rattle.theory.specs.laws.Tally.{tallies}
 use Rattle.header.specs.Header.{sender}
-use Rattle.times.specs.Moment.{real-length}
+use Rattle.times.specs.laws.Moment.{real-length}
 use Rattle.hgv.specs.Layout.{lineLength, linesMost, linesIn, lengthHolds, body}
 use Rattle.register.specs.Register.{records, slotsIn, inOrder}
-use Rattle.upkeep.specs.Stays.{Holds}
+use Rattle.upkeep.specs.Holds.{Holds}
 use Rattle.verdicts.specs.Verdict.{taken}
 use Rattle.hgc.specs.Confirmation.{confirmation, confirmationLength}
 use Rattle.holdings.specs.Holdings.{holdings}
 use Rattle.holdings.specs.Room.{usedAfter}
 use Rattle.applying.specs.Fit.{Fit}
-use Rattle.hgv.specs.Laws.{lines-most}
+use Rattle.hgv.specs.laws.Layout.{lines-most}
 use Rattle.stops.specs.Stops.{formStop}
-use Rattle.stops.specs.Clear.{Clear, clear}
+use Rattle.stops.specs.laws.Clear.{Clear, clear}
 use Rattle.importer.specs.declared.Imported.{Imported}
 use Rattle.importer.specs.Import.{judged, following, confirmed, roomStops, success, written, told}
-use Rattle.importer.specs.Numbers.{Room, room-clear}
-use Rattle.importer.specs.Accepted.{Accepted, verdict-each, lines-there, verdicts-most, lines-are, lines-hold, lines-apart, lines-free, following-used, confirmed-length}
+use Rattle.importer.specs.laws.Numbers.{Room, room-clear}
+use Rattle.importer.specs.laws.Accepted.{Accepted, verdict-each, lines-there, verdicts-most, lines-are, lines-hold, lines-apart, lines-free, following-used, confirmed-length}
 
 -- vs are the verdicts, and r of them reject their line
 module _ (mode : ℕ) (reception register rows h : List ℕ) (vs : List ℕ) (r : ℕ)

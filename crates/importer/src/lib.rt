@@ -4,10 +4,10 @@ ghost use lib.ListN.{length};
 ghost use Rattle.theory.specs.First.{first};
 ghost use Rattle.theory.specs.Pick.{bad};
 ghost use Rattle.theory.specs.Tally.{tally};
-ghost use Rattle.stops.specs.Clear.{Clear};
+ghost use Rattle.stops.specs.laws.Clear.{Clear};
 ghost use Rattle.hgv.specs.Layout.{linesIn};
 ghost use Rattle.importer.specs.Import.{judged, roomStops, refusal, success, written, told};
-ghost use Rattle.importer.specs.Accepted.{Accepted};
+ghost use Rattle.importer.specs.laws.Accepted.{Accepted};
 ghost use Rattle.importer.specs.Promises.{Import};
 
 const SLOT: usize = 128;

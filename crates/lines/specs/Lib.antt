@@ -1,8 +1,5 @@
 pub mod Rules
 pub mod Faultless
-pub mod Coverage
 pub mod End
-pub mod Ends
-pub mod Starred
 pub mod Promises
-pub mod Outcomes
+pub mod laws

@@ -9,13 +9,14 @@ use lib.ListN.{length}
 use borrow.Author.Tests.{eq-eqb, ne-eqb, ltb-true, ltb-false}
 use Rattle.theory.specs.Parts.{partAt}
 use Rattle.theory.specs.Walk.{some}
-use Rattle.theory.specs.Place.{place, place-most, place-some}
+use Rattle.theory.specs.Place.{place}
+use Rattle.theory.specs.laws.Place.{place-most, place-some}
 use Rattle.theory.specs.Keep.{sift}
 use Rattle.register.specs.Register.{slotLength, slotsIn, slotsOf, records, usedIn, usedPart}
 use Rattle.register.specs.Search.{holdsPan, placeOf}
-use Rattle.register.specs.Laws.{used-slots, slots-used}
+use Rattle.register.specs.laws.Register.{used-slots, slots-used}
 use Rattle.lookups.specs.Lookup.{panNumber, panPlace, panSlot, unlessRefused, seen, seenIn, plateNumber, platePlace, plateSlot}
-use Rattle.lookups.specs.Found.{pan-fits, pan-part, plate-fits, plate-part}
+use Rattle.lookups.specs.laws.Found.{pan-fits, pan-part, plate-fits, plate-part}
 
 -- the place is the number where none passes
 none-at : (p n : ℕ) → p ≤ n → eqb p n ≡ not (ltb p n)

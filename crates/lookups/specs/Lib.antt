@@ -1,4 +1,3 @@
 pub mod Lookup
-pub mod Found
 pub mod Promises
-pub mod Outcomes
+pub mod laws

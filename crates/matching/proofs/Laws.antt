@@ -6,29 +6,33 @@ use Prim.Native.Nat.{ℕ, zero, suc, _*_, _-_, _≤_, _<_}
 use native.Mathlib.Omega.{arith}
 use lib.Dec.{eqb}
 use lib.ListN.{length, getD, set, length-map, List·getD-map}
-use Rattle.theory.specs.Truth.{and-assoc}
-use Rattle.theory.specs.Same.{eqs, eqs-true, eq-eqs}
-use Rattle.theory.specs.Count.{bump, bump-le}
-use Rattle.theory.specs.Parts.{chop, partAt, length-chop}
-use Rattle.theory.specs.Join.{getD-chop}
+use Rattle.theory.specs.laws.Truth.{and-assoc}
+use Rattle.theory.specs.Same.{eqs}
+use Rattle.theory.specs.laws.Same.{eqs-true, eq-eqs}
+use Rattle.theory.specs.Count.{bump}
+use Rattle.theory.specs.laws.Count.{bump-le}
+use Rattle.theory.specs.Parts.{chop, partAt}
+use Rattle.theory.specs.laws.Parts.{length-chop}
+use Rattle.theory.specs.laws.Join.{getD-chop}
 use Rattle.theory.specs.Walk.{each}
 use Rattle.theory.specs.Pick.{good, pick}
 use Rattle.theory.specs.Distinct.{distinct}
 use Rattle.theory.specs.Tally.{tally}
 use Rattle.texts.specs.Field.{field}
-use Rattle.texts.specs.Laws.{field-field}
+use Rattle.texts.specs.laws.Field.{field-field}
 use Rattle.numbers.specs.Number.{number}
 use Rattle.columns.specs.Columns.{text, panOf}
 use Rattle.hgv.specs.Layout.{lineLength, linesIn, body, linesOf}
-use Rattle.hgv.specs.Laws.{lines-room, length-lines}
+use Rattle.hgv.specs.laws.Layout.{lines-room, length-lines}
 use Rattle.hgc.specs.Confirmation.{answerLength}
-use Rattle.pairing.specs.Backwards.{isLast, lower, waiting, paired, pairsUp, length-paired}
+use Rattle.pairing.specs.Backwards.{isLast, lower, waiting, paired}
+use Rattle.pairing.specs.laws.Backwards.{pairsUp, length-paired}
 use Rattle.pairing.specs.Pairing.{firsts}
-use Rattle.pairing.specs.Turns.{Pairs, pairs-turn, lower-hit, lower-miss, last-some}
+use Rattle.pairing.specs.laws.Turns.{Pairs, pairs-turn, lower-hit, lower-miss, last-some}
 use Rattle.receipts.specs.Receipt.{answersIn, behindHead, takenOf, rejectedOf, textsOf, copiesOf, marksOf, takenBy, copiesHold, countsHold, lineHolds, takenHold, linesHold}
-use Rattle.receipts.specs.Laws.{answers-room, answers-are}
-use Rattle.matching.specs.Texts.{textsIn}
-use Rattle.matching.specs.Laws.{copies-pair, pair-marks, taken-count}
+use Rattle.receipts.specs.laws.Receipt.{answers-room, answers-are}
+use Rattle.matching.specs.laws.Texts.{textsIn}
+use Rattle.matching.specs.laws.Matching.{copies-pair, pair-marks, taken-count}
 
 -- ---- texts by their places
 

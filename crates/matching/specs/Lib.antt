@@ -1,4 +1,2 @@
-pub mod Texts
-pub mod Laws
 pub mod Promises
-pub mod Outcomes
+pub mod laws

@@ -18,7 +18,7 @@ ghost use Rattle.hgc.specs.Confirmation.{answerLength};
 ghost use Rattle.pairing.specs.Pairing.{firsts};
 ghost use Rattle.pairing.specs.Backwards.{isLast, waiting, paired};
 ghost use Rattle.receipts.specs.Receipt.{takenOf, rejectedOf, textsOf, copiesOf, copiesHold, lineHolds};
-ghost use Rattle.matching.specs.Texts.{textsIn};
+ghost use Rattle.matching.specs.laws.Texts.{textsIn};
 ghost use Rattle.matching.specs.Promises.{LinesHold};
 
 // Have two lines, of either file, one text. Nearly all lines differ in the PAN, and few bytes behind it tell them apart.

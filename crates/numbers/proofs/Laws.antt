@@ -7,9 +7,10 @@ use native.Mathlib.Numerals.{add-one}
 use native.Mathlib.Omega.{arith}
 use lib.ListN.{length, take, drop, getD, set, length-set, length-take, length-drop, drop-of-length-le}
 use lib.Seq.{drop-cons, drop-set-lt, drop-length, getD-set-same, append-snoc}
-use Rattle.writing.specs.Put.{putField, put-lent}
+use Rattle.writing.specs.Put.{putField}
+use Rattle.writing.specs.laws.Put.{put-lent}
 use Rattle.numbers.specs.Number.{number, numberAfter, decimal}
-use Rattle.numbers.specs.Laws.{length-decimal}
+use Rattle.numbers.specs.laws.Number.{length-decimal}
 
 -- ---- a number, digit by digit
 

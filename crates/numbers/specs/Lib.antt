@@ -1,4 +1,3 @@
 pub mod Number
-pub mod Laws
 pub mod Promises
-pub mod Outcomes
+pub mod laws

@@ -9,15 +9,20 @@ use lib.Dec.{eqb, ltb}
 use lib.ListN.{length, take, replicate, getD, set, length-set}
 use lib.Seq.{ext-getD, getD-set-same, getD-set-other}
 use borrow.Author.Tests.{eqb-true, eqb-false, ltb-true, ltb-false}
-use Rattle.theory.specs.Truth.{and-split}
-use Rattle.theory.specs.Same.{eqs, eqs-true, eq-eqs}
-use Rattle.theory.specs.Parts.{chop, partAt, length-chop}
-use Rattle.theory.specs.Pick.{good, good-no}
-use Rattle.theory.specs.Place.{place, Placing, placing-start, placing-on, placing-off, placing-end}
-use Rattle.theory.specs.Table.{tableOf, entry, length-table}
-use Rattle.ordering.specs.Again.{counted, keyAt}
+use Rattle.theory.specs.laws.Truth.{and-split}
+use Rattle.theory.specs.Same.{eqs}
+use Rattle.theory.specs.laws.Same.{eqs-true, eq-eqs}
+use Rattle.theory.specs.Parts.{chop, partAt}
+use Rattle.theory.specs.laws.Parts.{length-chop}
+use Rattle.theory.specs.Pick.{good}
+use Rattle.theory.specs.laws.Pick.{good-no}
+use Rattle.theory.specs.Place.{place}
+use Rattle.theory.specs.laws.Place.{Placing, placing-start, placing-on, placing-off, placing-end}
+use Rattle.theory.specs.Table.{tableOf}
+use Rattle.theory.specs.laws.Table.{entry, length-table}
+use Rattle.ordering.specs.laws.Again.{counted, keyAt}
 use Rattle.ordering.specs.Places.{hasKey, placeFor}
-use Rattle.ordering.specs.Order.{Less, Step, rises, stays, Rising, Covers, Sorted}
+use Rattle.ordering.specs.laws.Order.{Less, Step, rises, stays, Rising, Covers, Sorted}
 use Rattle.ordering.proofs.Laws.{less-trans, less-no, any-two, one-rank, good-eq}
 
 -- s is the key of the part i, and r says whether it is t

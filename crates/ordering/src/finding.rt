@@ -7,9 +7,9 @@ ghost use lib.ListN.{length, getD};
 ghost use Rattle.theory.specs.Parts.{chop};
 ghost use Rattle.theory.specs.Place.{place};
 ghost use Rattle.texts.specs.Field.{field};
-ghost use Rattle.ordering.specs.Again.{keyAt};
+ghost use Rattle.ordering.specs.laws.Again.{keyAt};
 ghost use Rattle.ordering.specs.Places.{hasKey, placeFor};
-ghost use Rattle.ordering.specs.Order.{Less, Sorted};
+ghost use Rattle.ordering.specs.laws.Order.{Less, Sorted};
 ghost use Rattle.ordering.specs.Promises.{Places};
 
 // For fewer lines the sort takes longer than it saves.

@@ -7,8 +7,8 @@ ghost use Prim.Native.Nat.{_*_, _+_, _≤_, _<_};
 ghost use lib.ListN.{length, getD};
 ghost use Rattle.theory.specs.Pick.{good};
 ghost use Rattle.texts.specs.Field.{field};
-ghost use Rattle.ordering.specs.Again.{counted, keyAt, seen, again, noneAgain};
-ghost use Rattle.ordering.specs.Order.{Less, Step, Rising, Covers};
+ghost use Rattle.ordering.specs.laws.Again.{counted, keyAt, seen, again, noneAgain};
+ghost use Rattle.ordering.specs.laws.Order.{Less, Step, Rising, Covers};
 ghost use Rattle.ordering.specs.Promises.{AreApart, AreFirsts, Places};
 
 mod finding;

@@ -1,8 +1,3 @@
 pub mod Pairing
-pub mod Laws
-pub mod Firsts
-pub mod Faithful
 pub mod Backwards
-pub mod Turns
-pub mod Telling
-pub mod Apart
+pub mod laws

@@ -32,10 +32,6 @@ told (zero ∷ ms) rs = 0 ∷ told ms rs
 told (suc m ∷ ms) [] = 0 ∷ told ms []
 told (suc m ∷ ms) (r ∷ rs) = r ∷ told ms rs
 
--- the mark of a line with this verdict
-unfoldable pub mark : ℕ → ℕ
-mark v = bump (bad v) 0
-
 -- no line that has the verdict 0 has a text that stands in front of it; `before` are the texts in front of all
 unfoldable pub firstsFrom : List (List ℕ) → List (List ℕ) → List ℕ → Bool
 firstsFrom before [] vs = true

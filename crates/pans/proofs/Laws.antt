@@ -10,8 +10,9 @@ use lib.Dec.{leb, eqb}
 use lib.ListN.{length, take, drop, getD, length-drop, drop-of-length-le}
 use lib.Seq.{drop-cons}
 use borrow.Author.Tests.{leb-true, eq-eqb, ne-eqb}
-use Rattle.theory.specs.Truth.{and-left, and-right}
-use Rattle.theory.specs.Every.{all, all-at}
+use Rattle.theory.specs.laws.Truth.{and-left, and-right}
+use Rattle.theory.specs.Every.{all}
+use Rattle.theory.specs.laws.Every.{all-at}
 use Rattle.fields.specs.Field.{digit}
 use Rattle.pans.specs.Pan.{doubled, counted, luhnSum}
 

@@ -7,9 +7,10 @@ use native.Mathlib.Omega.{arith}
 use lib.Dec.{eqb, leb}
 use lib.ListN.{getD}
 use borrow.Author.Tests.{le-leb, leb-true}
-use Rattle.theory.specs.Truth.{same-truth}
-use Rattle.theory.specs.Table.{entry}
-use Rattle.plates.specs.Plate.{allowed, allowedMark, allowedTable}
+use Rattle.theory.specs.laws.Truth.{same-truth}
+use Rattle.theory.specs.laws.Table.{entry}
+use Rattle.plates.specs.Plate.{allowed}
+use Rattle.plates.specs.laws.Plate.{allowedMark, allowedTable}
 
 flag : (t : Bool) → eqb (cond t 49 48) 49 ≡ t
 flag true = refl

@@ -1,12 +1,11 @@
 -- The license plate, its nationality and its separators: rules L6, L7 and the separator's part of L10.
 -- Assumes nothing.
 use Prim.Native.Nat.{ℕ, _+_}
-use mathlib.Core.Bool.{Bool, _&&_, _||_, cond}
+use mathlib.Core.Bool.{Bool, _&&_, _||_}
 use mathlib.Core.List.{List}
 use lib.Dec.{eqb, leb}
 use lib.ListN.{length}
 use Rattle.theory.specs.Every.{run, leading}
-use Rattle.theory.specs.Table.{tableOf}
 use Rattle.texts.specs.Field.{field}
 use Rattle.fields.specs.Field.{between, digit, capital, blank}
 use Rattle.characters.specs.Characters.{filled}
@@ -17,14 +16,6 @@ unfoldable pub allowed : ℕ → Bool
 allowed b =
     between 65 90 b || between 48 57 b || between 97 122 b
     || eqb b 0xc4 || eqb b 0xd6 || eqb b 0xdc || eqb b 0xe4 || eqb b 0xfc
-
--- an entry is '1' where its place is a byte that a plate may hold, else '0'
-unfoldable pub allowedMark : ℕ → ℕ
-allowedMark b = cond (allowed b) 49 48
-
--- all 256 byte values
-unfoldable pub allowedTable : List ℕ
-allowedTable = tableOf allowedMark 256
 
 abbrev pub plateLength : ℕ
 plateLength = 10

@@ -3,7 +3,8 @@ ghost use mathlib.Core.Path.{_≡_};
 ghost use Prim.Native.Nat.{_+_};
 ghost use Rattle.theory.specs.Every.{leading};
 ghost use lib.Dec.{leb};
-ghost use Rattle.plates.specs.Plate.{allowed, allowedTable, separated};
+ghost use Rattle.plates.specs.Plate.{allowed, separated};
+ghost use Rattle.plates.specs.laws.Plate.{allowedTable};
 ghost use Rattle.plates.specs.Promises.{PlateCharacters, IsPlate, IsNationality, IsSeparator};
 
 const PLATE_LENGTH: usize = 10;

@@ -7,27 +7,32 @@ use native.Mathlib.Omega.{arith}
 use lib.Dec.{eqb, leb}
 use lib.ListN.{length, getD, List·getD-map}
 use borrow.Author.Tests.{eqb-true, eq-eqb, leb-true}
-use Rattle.theory.specs.Truth.{same-truth}
+use Rattle.theory.specs.laws.Truth.{same-truth}
 use Rattle.theory.specs.Text.{bytes}
-use Rattle.theory.specs.Same.{eqs, eqs-true, mem}
+use Rattle.theory.specs.Same.{eqs, mem}
+use Rattle.theory.specs.laws.Same.{eqs-true}
 use Rattle.theory.specs.Count.{bump}
-use Rattle.theory.specs.Each.{Each, none, more, each-at}
-use Rattle.theory.specs.Keep.{onto, sift, sift-all, sift-length}
-use Rattle.theory.specs.Walk.{each, each-passes}
-use Rattle.theory.specs.Parts.{chop, partAt, part-fits, length-chop}
-use Rattle.theory.specs.Join.{getD-chop}
+use Rattle.theory.specs.Each.{Each, none, more}
+use Rattle.theory.specs.laws.Each.{each-at}
+use Rattle.theory.specs.Keep.{onto, sift}
+use Rattle.theory.specs.laws.Keep.{sift-all, sift-length}
+use Rattle.theory.specs.Walk.{each}
+use Rattle.theory.specs.laws.Walk.{each-passes}
+use Rattle.theory.specs.Parts.{chop, partAt}
+use Rattle.theory.specs.laws.Parts.{part-fits, length-chop}
+use Rattle.theory.specs.laws.Join.{getD-chop}
 use Rattle.theory.specs.Pick.{bad}
 use Rattle.texts.specs.Field.{field, listed}
 use Rattle.numbers.specs.Number.{numberAfter, number}
 use Rattle.header.specs.Header.{sender}
 use Rattle.register.specs.Register.{slotsIn, slotsOf, records, usedPart}
 use Rattle.register.specs.Search.{ofActor, countOf}
-use Rattle.register.specs.Laws.{slots-used, used-slots}
+use Rattle.register.specs.laws.Register.{slots-used, used-slots}
 use Rattle.hgc.specs.Confirmation.{answerLength}
-use Rattle.pairing.specs.Telling.{toldAt, told-left}
+use Rattle.pairing.specs.laws.Telling.{toldAt, told-left}
 use Rattle.receipts.specs.Receipt.{answersIn, behindHead, answersOf, reasonOf, reasonHolds}
 use Rattle.provider.specs.ReadBack.{reasonsOf}
-use Rattle.receipts.specs.Laws.{answers-room, answers-are}
+use Rattle.receipts.specs.laws.Receipt.{answers-room, answers-are}
 use Rattle.provider.specs.Update.{ownHolds}
 
 -- ---- a reason

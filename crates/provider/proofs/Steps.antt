@@ -14,11 +14,11 @@ use Rattle.theory.specs.Pick.{good, bad, pick}
 use Rattle.theory.specs.Tally.{tally}
 use Rattle.header.specs.Header.{sender}
 use Rattle.hgv.specs.Layout.{lineLength, linesMost, linesIn, body, linesOf}
-use Rattle.hgv.specs.Laws.{lines-room, lines-most}
+use Rattle.hgv.specs.laws.Layout.{lines-room, lines-most}
 use Rattle.register.specs.Register.{slotsIn, records, inOrder}
 use Rattle.holdings.specs.Holdings.{holdings}
 use Rattle.holdings.specs.Room.{usedAfter}
-use Rattle.upkeep.specs.Stays.{Holds}
+use Rattle.upkeep.specs.Holds.{Holds}
 use Rattle.applying.specs.Fit.{Fit}
 use Rattle.pairing.specs.Pairing.{told}
 use Rattle.pairing.specs.Backwards.{paired}
@@ -27,7 +27,7 @@ use Rattle.provider.specs.declared.Counted.{Counted}
 use Rattle.provider.specs.Answer.{refusal, counted}
 use Rattle.provider.specs.ReadBack.{reasonsOf, readVerdicts, fileStops, readAnswer, toldTo, verdictsAfter}
 use Rattle.provider.specs.Update.{copyStops, following, updateAnswer, updated, copyAfter}
-use Rattle.provider.specs.Numbers.{
+use Rattle.provider.specs.laws.Numbers.{
   file-sized,
   read-52,
   read-53,
@@ -45,7 +45,7 @@ use Rattle.provider.specs.Numbers.{
   update-counted,
   copy-updated,
 }
-use Rattle.provider.specs.Held.{length-marks-of, marks-are, reasons-held, left-count, following-used, taken-fit}
+use Rattle.provider.specs.laws.Held.{length-marks-of, marks-are, reasons-held, left-count, following-used, taken-fit}
 
 -- n lines have room in a block for the most that there may be
 pub file-most : (h : List ℕ) (s : ℕ) → s ≡ first (fileStops h) → s ≡ 0 → (n : ℕ) → n ≡ linesIn h → n ≤ linesMost

@@ -12,7 +12,7 @@ ghost use Rattle.theory.specs.Pick.{bad};
 ghost use Rattle.theory.specs.Tally.{tally};
 ghost use Rattle.hgv.specs.Layout.{linesIn};
 ghost use Rattle.pairing.specs.Pairing.{told};
-ghost use Rattle.pairing.specs.Telling.{toldAt};
+ghost use Rattle.pairing.specs.laws.Telling.{toldAt};
 ghost use Rattle.pairing.specs.Backwards.{paired};
 ghost use Rattle.receipts.specs.Receipt.{answersIn, answersOf, reasonHolds, textsOf, copiesOf, marksOf, receiptHolds};
 ghost use Rattle.provider.specs.Answer.{refusal, counted};

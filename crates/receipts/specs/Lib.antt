@@ -1,5 +1,3 @@
 pub mod Receipt
-pub mod Laws
-pub mod Written
 pub mod Promises
-pub mod Outcomes
+pub mod laws

@@ -7,16 +7,18 @@ use native.Mathlib.Omega.{arith}
 use lib.Dec.{eqb, leb}
 use lib.ListN.{length, take, drop}
 use borrow.Author.Tests.{eqb-true, leb-true, lt-ltb, le-ltb}
-use Rattle.theory.specs.Truth.{and-split}
+use Rattle.theory.specs.laws.Truth.{and-split}
 use Rattle.theory.specs.Text.{bytes}
-use Rattle.theory.specs.Parts.{partAt, part-is}
-use Rattle.theory.specs.Put.{put-lent}
+use Rattle.theory.specs.Parts.{partAt}
+use Rattle.theory.specs.laws.Parts.{part-is}
+use Rattle.theory.specs.laws.Put.{put-lent}
 use Rattle.texts.specs.Field.{field, lineEnd}
-use Rattle.texts.specs.Laws.{field-length}
-use Rattle.writing.specs.Put.{putField, written-start, written-next, written-end}
+use Rattle.texts.specs.laws.Field.{field-length}
+use Rattle.writing.specs.Put.{putField}
+use Rattle.writing.specs.laws.Put.{written-start, written-next, written-end}
 use Rattle.columns.specs.Columns.{validTo}
 use Rattle.lines.specs.End.{endOf, recordOf}
-use Rattle.records.specs.Written.{length-end}
+use Rattle.records.specs.laws.Written.{length-end}
 use Rattle.records.specs.Slot.{fits, written, putRecord}
 
 -- a field of a line, as its reader has it

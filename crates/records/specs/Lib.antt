@@ -1,5 +1,3 @@
-pub mod Written
 pub mod Slot
-pub mod Holds
 pub mod Promises
-pub mod Outcomes
+pub mod laws

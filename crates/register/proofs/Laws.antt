@@ -7,19 +7,24 @@ use native.Mathlib.Omega.{arith}
 use lib.Dec.{eqb, leb}
 use lib.ListN.{length, take, drop, replicate, length-drop}
 use borrow.Author.Tests.{leb-true}
-use Rattle.theory.specs.Truth.{and-right}
-use Rattle.theory.specs.Same.{eqs, eqs-sym}
-use Rattle.theory.specs.Count.{count, Counted, counted-end}
-use Rattle.theory.specs.Parts.{chop, partsFrom, parts-start, length-chop}
-use Rattle.theory.specs.Place.{drop-chop}
+use Rattle.theory.specs.laws.Truth.{and-right}
+use Rattle.theory.specs.Same.{eqs}
+use Rattle.theory.specs.laws.Same.{eqs-sym}
+use Rattle.theory.specs.Count.{count}
+use Rattle.theory.specs.laws.Count.{Counted, counted-end}
+use Rattle.theory.specs.Parts.{chop}
+use Rattle.theory.specs.laws.Parts.{partsFrom, parts-start, length-chop}
+use Rattle.theory.specs.laws.Place.{drop-chop}
 use Rattle.theory.specs.Walk.{each}
 use Rattle.theory.specs.Distinct.{distinct}
-use Rattle.theory.specs.Keep.{onto, sift, length-onto}
-use Rattle.theory.specs.Pick.{good, pick, pick-take}
-use Rattle.theory.specs.Table.{length-cut}
+use Rattle.theory.specs.Keep.{onto, sift}
+use Rattle.theory.specs.laws.Keep.{length-onto}
+use Rattle.theory.specs.Pick.{good, pick}
+use Rattle.theory.specs.laws.Pick.{pick-take}
+use Rattle.theory.specs.laws.Table.{length-cut}
 use Rattle.columns.specs.Columns.{actor, panOf}
 use Rattle.register.specs.Register.{slotLength, slotsMost, slotsIn, slotsOf, usedForm, freeForm, records, usedIn, inOrder}
-use Rattle.register.specs.Laws.{used-most, used-fits, records-chop, slots-front}
+use Rattle.register.specs.laws.Register.{used-most, used-fits, records-chop, slots-front}
 use Rattle.register.specs.Search.{ofActor, countOf}
 
 -- the used slots lie within the block

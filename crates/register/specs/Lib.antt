@@ -1,5 +1,4 @@
 pub mod Register
 pub mod Search
-pub mod Laws
 pub mod Promises
-pub mod Outcomes
+pub mod laws

@@ -5,7 +5,7 @@ use Prim.Native.Nat.{ℕ, _*_, _≤_}
 use lib.ListN.{length}
 use Rattle.register.specs.Register.{slotLength}
 use Rattle.lookups.specs.Lookup.{panNumber, panPlace, panSlot, plateNumber, platePlace, plateSlot}
-use Rattle.lookups.specs.Found.{pan-room, plate-room}
+use Rattle.lookups.specs.laws.Found.{pan-room, plate-room}
 use Rattle.service.specs.Answers.{startOf, panStart, panLength, plateStart, plateLength}
 
 module _ (b key : List ℕ) where

@@ -1,4 +1,3 @@
 pub mod Answers
-pub mod Stands
 pub mod Promises
-pub mod Outcomes
+pub mod laws

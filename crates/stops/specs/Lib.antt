@@ -1,4 +1,3 @@
 pub mod Stops
-pub mod Clear
 pub mod Promises
-pub mod Outcomes
+pub mod laws

@@ -7,7 +7,8 @@ use native.Mathlib.Omega.{arith}
 use lib.ListN.{length, take, drop, length-drop, drop-of-length-le}
 use lib.Seq.{take-all, take-nil}
 use Rattle.theory.specs.Same.{eqs, mem}
-use Rattle.theory.specs.Parts.{chop, partAt, partsFrom, parts-start, parts-step, parts-end}
+use Rattle.theory.specs.Parts.{chop, partAt}
+use Rattle.theory.specs.laws.Parts.{partsFrom, parts-start, parts-step, parts-end}
 use Rattle.texts.specs.Field.{field, listed}
 
 module _ (text : List ℕ) (from to : ℕ) where

@@ -1,5 +1,3 @@
-pub mod Truth
-pub mod Outcome
 pub mod First
 pub mod Stopped
 pub mod Text
@@ -16,9 +14,7 @@ pub mod Distinct
 pub mod Join
 pub mod Put
 pub mod Pad
-pub mod CloseUp
 pub mod Place
-pub mod Counting
 pub mod Tally
 pub mod Scan
-pub mod Among
+pub mod laws

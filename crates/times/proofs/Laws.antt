@@ -9,7 +9,7 @@ use lib.Dec.{eqb, ltb}
 use lib.ListN.{length, drop, getD, drop-of-length-le}
 use lib.Seq.{drop-cons}
 use borrow.Author.Tests.{eq-eqb, ne-eqb, le-ltb}
-use Rattle.theory.specs.Truth.{or-false}
+use Rattle.theory.specs.laws.Truth.{or-false}
 use Rattle.times.specs.Order.{earlier}
 
 -- ---- the order from the place i on, as a comparing loop has it

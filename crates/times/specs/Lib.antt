@@ -1,7 +1,4 @@
 pub mod Time
-pub mod Moment
-pub mod Date
-pub mod Calendar
 pub mod Order
 pub mod Promises
-pub mod Outcomes
+pub mod laws

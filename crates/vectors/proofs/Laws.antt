@@ -9,8 +9,9 @@ use lib.Dec.{eqb, leb}
 use lib.ListN.{length, take, drop, getD, set, length-append, length-take, length-drop, drop-of-length-le}
 use lib.Seq.{take-all, take-suc, take-suc-set, drop-cons}
 use borrow.Author.Tests.{eq-eqb, ne-eqb, le-leb, lt-leb, leb-true}
-use Rattle.theory.specs.Truth.{same-truth, and-both, and-left, and-right}
-use Rattle.theory.specs.Parts.{partAt, part-fits}
+use Rattle.theory.specs.laws.Truth.{same-truth, and-both, and-left, and-right}
+use Rattle.theory.specs.Parts.{partAt}
+use Rattle.theory.specs.laws.Parts.{part-fits}
 use Rattle.texts.specs.Field.{field}
 use Rattle.numbers.specs.Number.{number}
 use Rattle.writing.specs.Put.{putField}

@@ -1,4 +1,3 @@
 pub mod Vehicle
-pub mod Parts
 pub mod Promises
-pub mod Outcomes
+pub mod laws

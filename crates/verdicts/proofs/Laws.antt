@@ -5,16 +5,17 @@ use mathlib.Core.List.{List}
 use Prim.Native.Nat.{ℕ, _≤_}
 use native.Mathlib.Omega.{arith}
 use lib.Dec.{eqb}
-use Rattle.theory.specs.First.{choose, first, otherwise-stands, otherwise-next, numberedTo, first-most}
+use Rattle.theory.specs.First.{choose, first}
+use Rattle.theory.specs.laws.First.{otherwise-stands, otherwise-next, numberedTo, first-most}
 use Rattle.theory.specs.Count.{bump}
 use Rattle.theory.specs.Walk.{some}
 use Rattle.theory.specs.Pick.{good}
-use Rattle.theory.specs.Among.{good-is}
+use Rattle.theory.specs.laws.Among.{good-is}
 use Rattle.columns.specs.Columns.{panOf}
 use Rattle.lines.specs.Rules.{lineRules, lineFault}
 use Rattle.register.specs.Search.{holdsPan, heldByAnother}
 use Rattle.verdicts.specs.Verdict.{ownRules, verdict}
-use Rattle.verdicts.specs.Laws.{own-is, verdict-is}
+use Rattle.verdicts.specs.laws.Verdict.{own-is, verdict-is}
 
 -- a verdict counted
 pub counts : (v m : ℕ) → m ≡ choose (eqb v 0) 1 0 → m ≡ bump (good v) 0

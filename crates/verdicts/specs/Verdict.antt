@@ -4,7 +4,7 @@ use Prim.Native.Nat.{ℕ}
 use mathlib.Core.List.{List, [], _∷_, _++_}
 use Rattle.theory.specs.First.{Rule, _if_, first}
 use Rattle.theory.specs.Walk.{some}
-use Rattle.theory.specs.Pick.{good, bad, pick}
+use Rattle.theory.specs.Pick.{good, pick}
 use Rattle.theory.specs.Scan.{scan}
 use Rattle.columns.specs.Columns.{panOf}
 use Rattle.lines.specs.Rules.{lineRules}
@@ -32,9 +32,6 @@ verdictsOf rows from R ls = scan (verdict rows from R) [] ls
 unfoldable pub fileVerdicts : List ℕ → List (List ℕ) → List ℕ → List ℕ
 fileVerdicts rows R h = verdictsOf rows (sender h) R (linesOf h)
 
--- the lines that were taken, and those that were rejected, in file order
+-- the lines that were taken, in file order
 unfoldable pub taken : List ℕ → List ℕ → List (List ℕ)
 taken vs h = pick good vs (linesOf h)
-
-unfoldable pub rejected : List ℕ → List ℕ → List (List ℕ)
-rejected vs h = pick bad vs (linesOf h)

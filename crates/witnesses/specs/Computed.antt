@@ -11,7 +11,7 @@ use Rattle.theory.specs.Distinct.{distinct}
 use Rattle.theory.specs.Every.{all, run, leading}
 use Rattle.theory.specs.First.{choose, first}
 use Rattle.theory.specs.Join.{flat}
-use Rattle.theory.specs.Keep.{onto}
+use Rattle.theory.specs.Keep.{onto, sift}
 use Rattle.theory.specs.Pad.{free, pad, frontOn, front}
 use Rattle.theory.specs.Parts.{chop}
 use Rattle.theory.specs.Pick.{good, bad, pick}
@@ -30,24 +30,24 @@ use Rattle.vehicles.specs.Vehicle.{tariffHolds, classHolds, emissionHolds, prod
 use Rattle.times.specs.Order.{earlier}
 use Rattle.lines.specs.End.{endOf, recordOf}
 use Rattle.lines.specs.Rules.{L1, L2, L3, L4, L5, L6, L7, stateless, L8, L9, lineRules, recordHolds}
-use Rattle.lines.specs.Starred.{starred}
+use Rattle.lines.specs.laws.Starred.{starred}
 use Rattle.register.specs.Register.{slotsOf, marked, usedForm, freeForm, records, usedPart, inOrder}
 use Rattle.register.specs.Search.{holdsPan, placeOf, ofActor, holdsForeign, heldByAnother, countOf}
 use Rattle.hgv.specs.Layout.{linesIn, lengthHolds, body, linesOf, footer}
 use Rattle.frames.specs.Frames.{footerForm, footerHolds, framed, framesHold}
 use Rattle.sequences.specs.Sequence.{sequence}
-use Rattle.header.specs.Header.{previousHolds, headerHolds}
+use Rattle.header.specs.Header.{previousHolds, headerHolds, sender}
 use Rattle.claims.specs.Claims.{versionHolds, incrementalOnly, receiverHolds, countHolds}
-use Rattle.hgc.specs.Confirmation.{zeros, outcome, names, counts, head, answer, said, answers, foot, confirmation}
-use Rattle.verdicts.specs.Verdict.{ownRules, verdictRules, verdict, verdictsOf, fileVerdicts, taken, rejected}
+use Rattle.hgc.specs.Confirmation.{zeros, outcome, names, counts, head, answer, answers, foot, confirmation}
+use Rattle.hgc.specs.laws.Confirmation.{said}
+use Rattle.verdicts.specs.Verdict.{ownRules, verdictRules, verdict, verdictsOf, fileVerdicts, taken}
+use Rattle.verdicts.specs.laws.Verdict.{rejected}
 use Rattle.holdings.specs.Holdings.{storedOn, stored, storedAll, others, replacedAll, isFull, holdings}
 use Rattle.holdings.specs.Room.{usedAfter}
 use Rattle.stops.specs.Stops.{modeHolds, notFull, addressed, formStops, formStop}
 use Rattle.theory.specs.Stopped.{unlessStopped}
 use Rattle.importer.specs.Import.{judged, following, confirmed, roomStops, stops, numberOf, refusal, success, registerAfter, hgcAfter, answer as answered, written, told}
 use Rattle.importer.specs.declared.Imported.{Imported}
-use Rattle.theory.specs.Keep.{sift}
-use Rattle.header.specs.Header.{sender}
 use Rattle.pairing.specs.Pairing.{isTaken, marksFrom, marks, left}
 use Rattle.receipts.specs.Receipt.{answersIn, behindHead, answersOf, lengthForm, headForm, answerForm, formHolds, namesHold, outcomeHolds, reasonHolds, textsOf, copiesOf, marksOf, takenBy, sameTexts, copiesHold, countsHold, lineHolds, takenHold, saysHold, linesHold, receiptHolds}
 use Rattle.provider.specs.declared.Counted.{Counted}

@@ -5,7 +5,8 @@ use mathlib.Core.Bool.{false, true≢false}
 use mathlib.Core.List.{List, _++_}
 use Prim.Native.Nat.{ℕ}
 use lib.ListN.{take}
-use Rattle.theory.specs.Same.{eqs, eqs-refl}
+use Rattle.theory.specs.Same.{eqs}
+use Rattle.theory.specs.laws.Same.{eqs-refl}
 use Rattle.importer.specs.declared.Imported.{Imported}
 use Rattle.importer.specs.Promises.{Import}
 use Rattle.demands.specs.History.{Handed, Imports, empty}

@@ -1,4 +1,3 @@
 pub mod Put
-pub mod Laid
 pub mod Promises
-pub mod Outcomes
+pub mod laws

@@ -1,5 +1,5 @@
 -- Assumes nothing.
-use Rattle.holdings.specs.AtOnce.{at-once}
+use Rattle.holdings.specs.laws.AtOnce.{at-once}
 use borrow.Author.Needs.{needs}
 use lib.Seq.{length-take-le}
 use mathlib.Core.Path.{sym}

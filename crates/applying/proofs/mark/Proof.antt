@@ -3,7 +3,7 @@ use Prim.Native.Nat.{_-_}
 use native.Mathlib.Omega.{arith}
 use borrow.Author.Needs.{needs}
 use lib.ListN.{length}
-use Rattle.theory.specs.Parts.{part-fits}
+use Rattle.theory.specs.laws.Parts.{part-fits}
 use Rattle.applying.proofs.Removing.{Marking, marking-start, marking-turn, marking-end}
 use Rattle.applying.proofs.mark.Statement.{statement}
 use Rattle.applying.proofs.mark.Tie as tie

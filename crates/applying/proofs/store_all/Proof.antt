@@ -1,19 +1,19 @@
 -- The invariant: the lines taken from the place i on lead to the records that are to be held, and it is told where their PANs stand. Assumes nothing.
-use Prim.Native.Nat.{_≤_}
+use Prim.Native.Nat.{_≤_, _-_}
 use Rattle.holdings.specs.Holdings.{storedAll}
 use Rattle.lines.specs.End.{recordOf}
 use Rattle.register.specs.Register.{records, slotsIn}
-use Rattle.theory.specs.Among.{takenFrom}
+use Rattle.theory.specs.laws.Among.{takenFrom}
 use Rattle.theory.specs.First.{first}
-use Rattle.theory.specs.Parts.{chop, part-fits}
+use Rattle.theory.specs.Parts.{chop}
+use Rattle.theory.specs.laws.Parts.{part-fits}
 use Rattle.theory.specs.Pick.{good, pick}
 use borrow.Author.Needs.{needs}
 use lib.ListN.{length}
 use mathlib.Core.List.{map}
 use native.Mathlib.Omega.{arith}
-use Prim.Native.Nat.{_-_}
-use Rattle.applying.specs.Steps.{Storing}
-use Rattle.applying.specs.Standing.{Standing}
+use Rattle.applying.specs.laws.Steps.{Storing}
+use Rattle.applying.specs.laws.Standing.{Standing}
 use Rattle.applying.proofs.Storing.{storing-start, storing-ready, storing-turn, storing-length, storing-end, standing-left}
 use Rattle.applying.proofs.store_all.Statement.{statement}
 use Rattle.applying.proofs.store_all.Tie as tie

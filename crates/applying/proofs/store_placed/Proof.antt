@@ -1,6 +1,6 @@
 -- Assumes nothing.
 use borrow.Author.Needs.{needs}
-use Rattle.applying.specs.Standing.{standing-start}
+use Rattle.applying.specs.laws.Standing.{standing-start}
 use Rattle.applying.proofs.Storing.{storing-most}
 use Rattle.applying.proofs.store_placed.Statement.{statement}
 use Rattle.applying.proofs.store_placed.Tie as tie

@@ -4,7 +4,7 @@ use Prim.Native.Nat.{_≤_, _-_}
 use native.Mathlib.Omega.{arith}
 use borrow.Author.Tests.{not-true, not-false}
 use lib.ListN.{length}
-use Rattle.theory.specs.Every.{Leads, leads-start, leads-on, leads-off, leads-end}
+use Rattle.theory.specs.laws.Every.{Leads, leads-start, leads-on, leads-off, leads-end}
 use Rattle.fields.specs.Field.{digit}
 use Rattle.characters.proofs.digits_in.Statement.{statement}
 use Rattle.characters.proofs.digits_in.Tie as tie

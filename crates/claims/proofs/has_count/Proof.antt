@@ -3,7 +3,7 @@ use borrow.Author.Needs.{needs}
 use native.Mathlib.Omega.{arith}
 use Rattle.texts.specs.Field.{field}
 use Rattle.numbers.specs.Number.{number}
-use Rattle.texts.specs.Laws.{field-short}
+use Rattle.texts.specs.laws.Field.{field-short}
 use Rattle.claims.specs.Claims.{countHolds}
 use Rattle.claims.proofs.has_count.Statement.{statement}
 use Rattle.claims.proofs.has_count.Tie as tie

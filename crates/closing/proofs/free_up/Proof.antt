@@ -3,7 +3,7 @@ use borrow.Author.Needs.{needs}
 use mathlib.Core.Path.{_≡_, refl}
 use Prim.Native.Nat.{_≤_, _-_}
 use native.Mathlib.Omega.{arith}
-use Rattle.theory.specs.CloseUp.{Freeing, freeing-start, freeing-turn}
+use Rattle.theory.specs.laws.CloseUp.{Freeing, freeing-start, freeing-turn}
 use Rattle.closing.proofs.free_up.Statement.{statement}
 use Rattle.closing.proofs.free_up.Tie as tie
 

@@ -2,8 +2,8 @@
 use borrow.Author.Needs.{needs}
 use mathlib.Core.Path.{sym, ap, _∙_}
 use lib.ListN.{length}
-use Rattle.theory.specs.Parts.{length-part}
-use Rattle.theory.specs.Put.{put-ap}
+use Rattle.theory.specs.laws.Parts.{length-part}
+use Rattle.theory.specs.laws.Put.{put-ap}
 use Rattle.closing.proofs.move_slot.Statement.{statement}
 use Rattle.closing.proofs.move_slot.Tie as tie
 

@@ -5,7 +5,7 @@ use native.Mathlib.Omega.{arith}
 use borrow.Author.Needs.{needs}
 use Rattle.theory.specs.Parts.{chop}
 use Rattle.theory.specs.Pick.{good, pick}
-use Rattle.theory.specs.CloseUp.{Closing}
+use Rattle.theory.specs.laws.CloseUp.{Closing}
 use Rattle.closing.proofs.Laws.{closes-start, closes-turn}
 use Rattle.closing.proofs.move_up.Statement.{statement}
 use Rattle.closing.proofs.move_up.Tie as tie

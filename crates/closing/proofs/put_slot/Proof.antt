@@ -1,6 +1,6 @@
 -- Assumes nothing.
 use borrow.Author.Needs.{needs}
-use Rattle.theory.specs.Put.{put-lent}
+use Rattle.theory.specs.laws.Put.{put-lent}
 use Rattle.closing.proofs.put_slot.Statement.{statement}
 use Rattle.closing.proofs.put_slot.Tie as tie
 

@@ -4,8 +4,8 @@ use mathlib.Core.Path.{sym}
 use Prim.Native.Nat.{_≤_, _-_}
 use native.Mathlib.Omega.{arith}
 use borrow.Author.Tests.{not-true, not-false}
-use Rattle.theory.specs.Parts.{part-fits}
-use Rattle.theory.specs.Walk.{EachFrom, each-start, each-on, each-off, each-end}
+use Rattle.theory.specs.laws.Parts.{part-fits}
+use Rattle.theory.specs.laws.Walk.{EachFrom, each-start, each-on, each-off, each-end}
 use Rattle.frames.specs.Frames.{framed}
 use Rattle.frames.proofs.each_framed.Statement.{statement}
 use Rattle.frames.proofs.each_framed.Tie as tie

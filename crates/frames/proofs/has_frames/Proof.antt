@@ -3,7 +3,7 @@ use borrow.Author.Needs.{needs}
 use native.Mathlib.Omega.{arith}
 use Rattle.hgv.specs.Layout.{linesOf}
 use Rattle.frames.specs.Frames.{framesHold}
-use Rattle.hgv.specs.Laws.{lines-room}
+use Rattle.hgv.specs.laws.Layout.{lines-room}
 use Rattle.frames.proofs.has_frames.Statement.{statement}
 use Rattle.frames.proofs.has_frames.Tie as tie
 

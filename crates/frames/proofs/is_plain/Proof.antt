@@ -5,7 +5,8 @@ use Prim.Native.Nat.{_≤_, _-_}
 use native.Mathlib.Omega.{arith}
 use borrow.Author.Tests.{le-leb, lt-leb}
 use lib.ListN.{length}
-use Rattle.theory.specs.Every.{all, allFrom, all-start, all-on, all-off, all-end}
+use Rattle.theory.specs.Every.{all}
+use Rattle.theory.specs.laws.Every.{allFrom, all-start, all-on, all-off, all-end}
 use Rattle.fields.specs.Field.{plain}
 use Rattle.frames.proofs.is_plain.Statement.{statement}
 use Rattle.frames.proofs.is_plain.Tie as tie

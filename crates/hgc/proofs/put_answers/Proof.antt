@@ -3,7 +3,7 @@ use Prim.Native.Nat.{_≤_, _-_}
 use native.Mathlib.Omega.{arith}
 use borrow.Author.Needs.{needs}
 use lib.ListN.{length}
-use Rattle.theory.specs.Parts.{part-fits}
+use Rattle.theory.specs.laws.Parts.{part-fits}
 use Rattle.hgc.proofs.Laws.{Answered, answered-start, answered-length, answered-room, answered-turn, answered-end}
 use Rattle.hgc.proofs.put_answers.Statement.{statement}
 use Rattle.hgc.proofs.put_answers.Tie as tie

@@ -1,7 +1,7 @@
 -- Assumes nothing.
 use mathlib.Core.Path.{_∙_}
 use borrow.Author.Needs.{needs}
-use Rattle.writing.specs.Put.{put-ap}
+use Rattle.writing.specs.laws.Put.{put-ap}
 use Rattle.hgc.proofs.Laws.{outcome-none, outcome-some}
 use Rattle.hgc.proofs.put_outcome.Statement.{statement}
 use Rattle.hgc.proofs.put_outcome.Tie as tie

@@ -1,8 +1,8 @@
 -- Assumes nothing.
 use mathlib.Core.Path.{_∙_}
 use borrow.Author.Needs.{needs}
-use Rattle.writing.specs.Put.{put-ap}
-use Rattle.hgc.specs.Laws.{decimal-zeros}
+use Rattle.writing.specs.laws.Put.{put-ap}
+use Rattle.hgc.specs.laws.Confirmation.{decimal-zeros}
 use Rattle.hgc.proofs.put_zeros.Statement.{statement}
 use Rattle.hgc.proofs.put_zeros.Tie as tie
 

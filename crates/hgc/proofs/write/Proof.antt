@@ -1,7 +1,7 @@
 -- Assumes nothing.
 use native.Mathlib.Omega.{arith}
 use borrow.Author.Needs.{needs}
-use Rattle.hgv.specs.Laws.{length-least}
+use Rattle.hgv.specs.laws.Layout.{length-least}
 use Rattle.hgc.proofs.Laws.{lines-fit, foot-fits, written}
 use Rattle.hgc.proofs.write.Statement.{statement}
 use Rattle.hgc.proofs.write.Tie as tie

@@ -1,14 +1,13 @@
 -- The invariant: k of the first i count. Assumes nothing.
-use Prim.Native.Nat.{_≤_}
+use Prim.Native.Nat.{_≤_, _-_}
 use Rattle.hgv.specs.Layout.{lineLength}
 use Rattle.register.specs.Register.{slotsOf}
-use Rattle.theory.specs.Among.{CountAmong, count-among-end, count-among-start, count-among-turn}
-use Rattle.theory.specs.Parts.{part-fits}
+use Rattle.theory.specs.laws.Among.{CountAmong, count-among-end, count-among-start, count-among-turn}
+use Rattle.theory.specs.laws.Parts.{part-fits}
 use borrow.Author.Needs.{needs}
 use lib.ListN.{length}
 use native.Mathlib.Omega.{arith}
-use Prim.Native.Nat.{_-_}
-use Rattle.holdings.specs.Storing.{isNew}
+use Rattle.holdings.specs.Room.{isNew}
 use Rattle.holdings.proofs.count_lines.Statement.{statement}
 use Rattle.holdings.proofs.count_lines.Tie as tie
 

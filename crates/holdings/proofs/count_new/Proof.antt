@@ -2,7 +2,7 @@
 use borrow.Author.Needs.{needs}
 use lib.Seq.{length-take-le}
 use mathlib.Core.Path.{sym}
-use Rattle.holdings.specs.AtOnce.{at-once}
+use Rattle.holdings.specs.laws.AtOnce.{at-once}
 use Rattle.holdings.proofs.count_new.Statement.{statement}
 use Rattle.holdings.proofs.count_new.Tie as tie
 

@@ -1,6 +1,6 @@
 -- Assumes nothing.
 use borrow.Author.Needs.{needs}
-use Rattle.holdings.specs.AtOnce.{places-tell}
+use Rattle.holdings.specs.laws.AtOnce.{places-tell}
 use Rattle.holdings.proofs.count_placed.Statement.{statement}
 use Rattle.holdings.proofs.count_placed.Tie as tie
 

@@ -2,8 +2,8 @@
 use Rattle.importer.specs.Promises.{Import}
 use mathlib.Core.Path.{sym, _∙_}
 use native.Mathlib.Omega.{arith}
-use Rattle.stops.specs.Clear.{clear}
-use Rattle.importer.specs.Numbers.{number-form, stop-answer, stop-register, stop-hgc}
+use Rattle.stops.specs.laws.Clear.{clear}
+use Rattle.importer.specs.laws.Numbers.{number-form, stop-answer, stop-register, stop-hgc}
 use lib.Seq.{length-take-le}
 use Rattle.importer.proofs.Laws.{lines-in-most}
 use borrow.Author.Needs.{needs}

@@ -1,7 +1,7 @@
 -- Assumes nothing.
 use Rattle.importer.specs.Promises.{Import}
 use mathlib.Core.Path.{sym, _∙_}
-use Rattle.importer.specs.Numbers.{number-room, stop-answer, stop-register, stop-hgc, done-answer, done-register, done-hgc}
+use Rattle.importer.specs.laws.Numbers.{number-room, stop-answer, stop-register, stop-hgc, done-answer, done-register, done-hgc}
 use Rattle.importer.proofs.Laws.{taken-most, room-asks, accepts}
 use borrow.Author.Needs.{needs}
 use Rattle.importer.proofs.import_judged.Statement.{statement}

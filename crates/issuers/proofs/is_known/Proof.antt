@@ -2,8 +2,8 @@
 use borrow.Author.Needs.{needs}
 use Prim.Native.Nat.{_≤_, _-_}
 use native.Mathlib.Omega.{arith}
-use Rattle.theory.specs.Parts.{whole-fits}
-use Rattle.theory.specs.Walk.{SomeFrom, some-start, some-turn, some-end}
+use Rattle.theory.specs.laws.Parts.{whole-fits}
+use Rattle.theory.specs.laws.Walk.{SomeFrom, some-start, some-turn, some-end}
 use Rattle.issuers.specs.Rows.{sentBy, known}
 use Rattle.issuers.proofs.is_known.Statement.{statement}
 use Rattle.issuers.proofs.is_known.Tie as tie

@@ -2,7 +2,7 @@
 use borrow.Author.Needs.{needs}
 use native.Mathlib.Omega.{arith}
 use Rattle.characters.specs.Characters.{filled}
-use Rattle.texts.specs.Laws.{field-short}
+use Rattle.texts.specs.laws.Field.{field-short}
 use Rattle.issuers.specs.Rows.{row}
 use Rattle.issuers.proofs.is_row.Statement.{statement}
 use Rattle.issuers.proofs.is_row.Tie as tie

@@ -2,7 +2,8 @@
 use borrow.Author.Needs.{needs}
 use mathlib.Core.Path.{refl, ap}
 use mathlib.Core.Bool.{not}
-use Rattle.theory.specs.First.{first, chosen}
+use Rattle.theory.specs.First.{first}
+use Rattle.theory.specs.laws.First.{chosen}
 use Rattle.lines.proofs.Laws.{begins-is, fits-is}
 use Rattle.lines.specs.Rules.{lineRules, lineFault}
 use Rattle.lines.proofs.line_fault.Statement.{statement}

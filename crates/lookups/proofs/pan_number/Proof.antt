@@ -2,7 +2,8 @@
 use mathlib.Core.Path.{refl, ap}
 use borrow.Author.Needs.{needs}
 use mathlib.Core.Bool.{not}
-use Rattle.theory.specs.First.{first, chosen}
+use Rattle.theory.specs.First.{first}
+use Rattle.theory.specs.laws.First.{chosen}
 use Rattle.lookups.proofs.Laws.{pan-unfound}
 use Rattle.lookups.specs.Lookup.{panRules, panNumber}
 use Rattle.lookups.proofs.pan_number.Statement.{statement}

@@ -4,7 +4,8 @@ use mathlib.Core.Path.{refl, ap, ap₂}
 use mathlib.Core.Bool.{Bool, _&&_, not}
 use Prim.Native.Nat.{ℕ}
 use lib.Dec.{eqb, ltb}
-use Rattle.theory.specs.First.{first, chosen}
+use Rattle.theory.specs.First.{first}
+use Rattle.theory.specs.laws.First.{chosen}
 use Rattle.lookups.proofs.Laws.{plate-count}
 use Rattle.lookups.specs.Lookup.{plateRules, plateNumber}
 use Rattle.lookups.proofs.plate_number.Statement.{statement}

@@ -1,5 +1,5 @@
 -- Assumes nothing.
-use Rattle.matching.specs.Texts.{textsIn}
+use Rattle.matching.specs.laws.Texts.{textsIn}
 use borrow.Author.Needs.{needs}
 use Rattle.matching.proofs.are_firsts.Statement.{statement}
 use Rattle.matching.proofs.are_firsts.Tie as tie

@@ -1,6 +1,6 @@
 -- Assumes nothing.
-use Rattle.theory.specs.Parts.{part-fits}
-use Rattle.pairing.specs.Turns.{last-none}
+use Rattle.theory.specs.laws.Parts.{part-fits}
+use Rattle.pairing.specs.laws.Turns.{last-none}
 use Rattle.matching.proofs.Laws.{last-is}
 use mathlib.Core.Path.{sym}
 use native.Mathlib.Omega.{arith}

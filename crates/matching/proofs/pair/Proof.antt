@@ -1,8 +1,8 @@
 -- The invariant: the lines from the place i on are paired, and k copies wait. Assumes nothing.
 use lib.ListN.{length, length-set}
-use Rattle.theory.specs.Parts.{part-fits}
-use Rattle.pairing.specs.Turns.{Pairs, pairs-start, pairs-waiting, pairs-marks}
-use Rattle.matching.specs.Texts.{textsIn}
+use Rattle.theory.specs.laws.Parts.{part-fits}
+use Rattle.pairing.specs.laws.Turns.{Pairs, pairs-start, pairs-waiting, pairs-marks}
+use Rattle.matching.specs.laws.Texts.{textsIn}
 use Rattle.matching.proofs.Laws.{length-texts, last-most, pair-turn}
 use mathlib.Core.Path.{_≡_, refl, sym}
 use Prim.Native.Nat.{_≤_}

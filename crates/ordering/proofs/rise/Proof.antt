@@ -1,6 +1,6 @@
 -- The invariant: the order rises up to the place i. Assumes nothing.
 use Rattle.texts.specs.Field.{field}
-use Rattle.ordering.specs.Order.{Rising}
+use Rattle.ordering.specs.laws.Order.{Rising}
 use Rattle.ordering.proofs.Laws.{rise-start, rise-on, rise-stop, rise-end, found-rising, found-lost}
 use Prim.Native.Nat.{_≤_, _-_, _+_}
 use native.Mathlib.Omega.{arith}

@@ -2,7 +2,7 @@
 use borrow.Author.Needs.{needs}
 use mathlib.Core.Path.{sym}
 use lib.Seq.{length-take-le}
-use Rattle.theory.specs.Every.{leading-all, leading-most}
+use Rattle.theory.specs.laws.Every.{leading-all, leading-most}
 use Rattle.pans.specs.Pan.{luhn}
 use Rattle.pans.proofs.is_luhn.Statement.{statement}
 use Rattle.pans.proofs.is_luhn.Tie as tie

@@ -1,11 +1,10 @@
 -- The invariant: those passed are allowed. Assumes nothing.
-use Prim.Native.Nat.{_≤_}
-use Rattle.theory.specs.Every.{Leads, leads-end, leads-off, leads-on, leads-start}
+use Prim.Native.Nat.{_≤_, _-_}
+use Rattle.theory.specs.laws.Every.{Leads, leads-end, leads-off, leads-on, leads-start}
 use borrow.Author.Needs.{needs}
 use borrow.Author.Tests.{not-false, not-true}
 use lib.ListN.{length}
 use native.Mathlib.Omega.{arith}
-use Prim.Native.Nat.{_-_}
 use Rattle.plates.specs.Plate.{allowed}
 use Rattle.plates.proofs.admitted.Statement.{statement}
 use Rattle.plates.proofs.admitted.Tie as tie

@@ -2,7 +2,7 @@
 use borrow.Author.Needs.{needs}
 use native.Mathlib.Omega.{arith}
 use Rattle.texts.specs.Field.{field}
-use Rattle.texts.specs.Laws.{field-short}
+use Rattle.texts.specs.laws.Field.{field-short}
 use Rattle.plates.specs.Plate.{separator}
 use Rattle.plates.proofs.is_separator.Statement.{statement}
 use Rattle.plates.proofs.is_separator.Tie as tie

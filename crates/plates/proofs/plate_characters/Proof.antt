@@ -1,7 +1,8 @@
 -- The rule of the table, computed over all 256 entries. Assumes nothing.
 use borrow.Author.Needs.{needs}
 use Rattle.theory.specs.Table.{tableOf, tableFrom}
-use Rattle.plates.specs.Plate.{allowed, allowedMark, allowedTable}
+use Rattle.plates.specs.Plate.{allowed}
+use Rattle.plates.specs.laws.Plate.{allowedMark, allowedTable}
 use Rattle.plates.proofs.plate_characters.Statement.{statement}
 use Rattle.plates.proofs.plate_characters.Tie as tie
 

@@ -1,6 +1,6 @@
 -- Assumes nothing.
 use Rattle.provider.specs.Answer.{counted}
-use Rattle.provider.specs.Held.{taken-count}
+use Rattle.provider.specs.laws.Held.{taken-count}
 use borrow.Author.Needs.{needs}
 use Rattle.provider.proofs.count.Statement.{statement}
 use Rattle.provider.proofs.count.Tie as tie

@@ -1,5 +1,6 @@
 -- One stop after the other. Assumes nothing.
-use Rattle.theory.specs.First.{first, chosen}
+use Rattle.theory.specs.First.{first}
+use Rattle.theory.specs.laws.First.{chosen}
 use Rattle.provider.specs.ReadBack.{fileStops}
 use mathlib.Core.Path.{refl, ap}
 use mathlib.Core.Bool.{not}

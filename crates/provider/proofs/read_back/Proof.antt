@@ -1,7 +1,7 @@
 -- Assumes nothing.
 use Rattle.provider.specs.Promises.{ReadBack}
 use lib.Seq.{length-take-le}
-use Rattle.provider.specs.Numbers.{read-file, read-refused, verdicts-stay}
+use Rattle.provider.specs.laws.Numbers.{read-file, read-refused, verdicts-stay}
 use Rattle.provider.proofs.Steps.{file-most}
 use mathlib.Core.Path.{sym, _∙_}
 use native.Mathlib.Omega.{arith}

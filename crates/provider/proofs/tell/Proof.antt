@@ -1,6 +1,6 @@
 -- The invariant: the verdicts of the first i lines stand in front, and k of those lines are left. Assumes nothing.
 use Rattle.provider.specs.ReadBack.{reasonsOf}
-use Rattle.pairing.specs.Telling.{Telling, telling-start, telling-length, telling-room, telling-turn, telling-end}
+use Rattle.pairing.specs.laws.Telling.{Telling, telling-start, telling-length, telling-room, telling-turn, telling-end}
 use mathlib.Core.Path.{refl, ap}
 use Prim.Native.Nat.{ℕ, _≤_, _-_, _+_}
 use native.Mathlib.Omega.{arith}

@@ -1,7 +1,7 @@
 -- Assumes nothing.
 use Rattle.provider.specs.Promises.{Update}
 use lib.Seq.{length-take-le}
-use Rattle.provider.specs.Numbers.{update-copy, update-refused, copy-stays}
+use Rattle.provider.specs.laws.Numbers.{update-copy, update-refused, copy-stays}
 use Rattle.provider.proofs.Steps.{copy-most}
 use mathlib.Core.Path.{sym, _∙_}
 use native.Mathlib.Omega.{arith}

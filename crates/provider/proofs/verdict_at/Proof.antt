@@ -1,6 +1,6 @@
 -- Assumes nothing.
-use Rattle.texts.specs.Laws.{field-short}
-use Rattle.pairing.specs.Telling.{told-taken}
+use Rattle.texts.specs.laws.Field.{field-short}
+use Rattle.pairing.specs.laws.Telling.{told-taken}
 use Rattle.provider.proofs.Laws.{line-fits, reason-fits, reason-told}
 use native.Mathlib.Omega.{arith}
 use borrow.Author.Needs.{needs}

@@ -1,10 +1,10 @@
 -- The invariant: what is left decides. Assumes nothing.
 use borrow.Author.Tests.{not-true, not-false}
-use Rattle.theory.specs.Parts.{part-fits}
-use Rattle.theory.specs.Walk.{EachFrom, each-start, each-on, each-off, each-end}
+use Rattle.theory.specs.laws.Parts.{part-fits}
+use Rattle.theory.specs.laws.Walk.{EachFrom, each-start, each-on, each-off, each-end}
 use Rattle.hgc.specs.Confirmation.{answerLength}
 use Rattle.receipts.specs.Receipt.{answerForm, reasonHolds}
-use Rattle.receipts.specs.Laws.{answers-room, answers-are}
+use Rattle.receipts.specs.laws.Receipt.{answers-room, answers-are}
 use mathlib.Core.Path.{sym}
 use mathlib.Core.Bool.{_&&_}
 use Prim.Native.Nat.{_≤_, _-_}

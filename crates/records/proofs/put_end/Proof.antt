@@ -1,8 +1,8 @@
 -- Assumes nothing.
 use borrow.Author.Needs.{needs}
 use mathlib.Core.Path.{_∙_}
-use Rattle.writing.specs.Put.{put-ap}
-use Rattle.records.specs.Written.{end-stays, end-cut}
+use Rattle.writing.specs.laws.Put.{put-ap}
+use Rattle.records.specs.laws.Written.{end-stays, end-cut}
 use Rattle.records.proofs.put_end.Statement.{statement}
 use Rattle.records.proofs.put_end.Tie as tie
 

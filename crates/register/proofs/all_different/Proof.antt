@@ -1,5 +1,5 @@
 -- Assumes nothing.
-use Rattle.theory.specs.Table.{length-cut, cut-fits}
+use Rattle.theory.specs.laws.Table.{length-cut, cut-fits}
 use Rattle.register.proofs.Laws.{all-asked}
 use mathlib.Core.Path.{sym}
 use native.Mathlib.Omega.{arith}

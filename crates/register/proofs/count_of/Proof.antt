@@ -3,8 +3,8 @@ use Prim.Native.Nat.{_≤_, _-_}
 use native.Mathlib.Omega.{arith}
 use borrow.Author.Needs.{needs}
 use mathlib.Core.Logic.{⊎-elim}
-use Rattle.theory.specs.Count.{Counted, counted-start, counted-hit, counted-miss}
-use Rattle.theory.specs.Parts.{whole-fits}
+use Rattle.theory.specs.laws.Count.{Counted, counted-start, counted-hit, counted-miss}
+use Rattle.theory.specs.laws.Parts.{whole-fits}
 use Rattle.columns.specs.Columns.{actor}
 use Rattle.register.proofs.Laws.{of-is, count-is}
 use Rattle.register.proofs.count_of.Statement.{statement}

@@ -5,8 +5,8 @@ use native.Mathlib.Omega.{arith}
 use borrow.Author.Needs.{needs}
 use mathlib.Core.Bool.{cond}
 use borrow.Author.Tests.{not-true, not-false}
-use Rattle.theory.specs.Parts.{whole-fits}
-use Rattle.theory.specs.Walk.{EachFrom, each-start, each-on, each-off, each-end}
+use Rattle.theory.specs.laws.Parts.{whole-fits}
+use Rattle.theory.specs.laws.Walk.{EachFrom, each-start, each-on, each-off, each-end}
 use Rattle.register.specs.Register.{slotsOf, usedForm, freeForm}
 use Rattle.register.proofs.each_has_form.Statement.{statement}
 use Rattle.register.proofs.each_has_form.Tie as tie

@@ -2,8 +2,8 @@
 use Prim.Native.Nat.{_≤_, _-_}
 use native.Mathlib.Omega.{arith}
 use borrow.Author.Needs.{needs}
-use Rattle.theory.specs.Parts.{whole-fits}
-use Rattle.theory.specs.Place.{Placing, placing-start, placing-on, placing-off, placing-end}
+use Rattle.theory.specs.laws.Parts.{whole-fits}
+use Rattle.theory.specs.laws.Place.{Placing, placing-start, placing-on, placing-off, placing-end}
 use Rattle.register.specs.Register.{slotsOf}
 use Rattle.register.specs.Search.{holdsPan, placeOf}
 use Rattle.register.proofs.find.Statement.{statement}

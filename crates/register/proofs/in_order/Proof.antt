@@ -4,7 +4,7 @@ use native.Mathlib.Omega.{arith}
 use borrow.Author.Needs.{needs}
 use borrow.Author.Tests.{not-true, not-false}
 use native.Mathlib.Nat.{div-mul-le-self}
-use Rattle.register.specs.Laws.{used-most}
+use Rattle.register.specs.laws.Register.{used-most}
 use Rattle.register.proofs.Laws.{used-room, used-few, unsized, order-is}
 use Rattle.register.proofs.in_order.Statement.{statement}
 use Rattle.register.proofs.in_order.Tie as tie

@@ -3,8 +3,8 @@ use mathlib.Core.Path.{sym}
 use Prim.Native.Nat.{_≤_, _-_}
 use native.Mathlib.Omega.{arith}
 use borrow.Author.Needs.{needs}
-use Rattle.theory.specs.Parts.{whole-fits}
-use Rattle.theory.specs.Place.{Placing, placing-start, placing-on, some-off, none-end}
+use Rattle.theory.specs.laws.Parts.{whole-fits}
+use Rattle.theory.specs.laws.Place.{Placing, placing-start, placing-on, some-off, none-end}
 use Rattle.register.specs.Register.{slotsOf}
 use Rattle.register.specs.Search.{holdsForeign, heldByAnother}
 use Rattle.register.proofs.is_held_by_another.Statement.{statement}

@@ -4,10 +4,10 @@ use mathlib.Core.Path.{sym, ap, _∙_}
 use mathlib.Core.Bool.{not}
 use Prim.Native.Nat.{_≤_, _-_}
 use native.Mathlib.Omega.{arith}
-use Rattle.theory.specs.Parts.{whole-fits}
-use Rattle.theory.specs.Place.{Placing, placing-start, placing-on, placing-off, placing-end}
+use Rattle.theory.specs.laws.Parts.{whole-fits}
+use Rattle.theory.specs.laws.Place.{Placing, placing-start, placing-on, placing-off, placing-end}
 use Rattle.register.specs.Register.{marked}
-use Rattle.register.specs.Laws.{used-place}
+use Rattle.register.specs.laws.Register.{used-place}
 use Rattle.register.proofs.used_slots.Statement.{statement}
 use Rattle.register.proofs.used_slots.Tie as tie
 

@@ -3,7 +3,7 @@ use borrow.Author.Needs.{needs}
 use native.Mathlib.Omega.{arith}
 use Rattle.texts.specs.Field.{field}
 use Rattle.numbers.specs.Number.{number}
-use Rattle.texts.specs.Laws.{field-short}
+use Rattle.texts.specs.laws.Field.{field-short}
 use Rattle.sequences.specs.Sequence.{sequence}
 use Rattle.sequences.proofs.is_sequence.Statement.{statement}
 use Rattle.sequences.proofs.is_sequence.Tie as tie

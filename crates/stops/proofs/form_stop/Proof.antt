@@ -1,7 +1,8 @@
 -- One stop after the other. Assumes nothing.
 use mathlib.Core.Path.{refl, ap}
 use mathlib.Core.Bool.{not}
-use Rattle.theory.specs.First.{first, chosen}
+use Rattle.theory.specs.First.{first}
+use Rattle.theory.specs.laws.First.{chosen}
 use Rattle.stops.specs.Stops.{formStops, formStop}
 use borrow.Author.Needs.{needs}
 use Rattle.stops.proofs.form_stop.Statement.{statement}

@@ -4,7 +4,7 @@ use Prim.Native.Nat.{_≤_, _-_}
 use native.Mathlib.Omega.{arith}
 use native.Mathlib.Nat.{div-le-self}
 use lib.ListN.{length}
-use Rattle.theory.specs.Parts.{whole-fits}
+use Rattle.theory.specs.laws.Parts.{whole-fits}
 use Rattle.texts.proofs.Laws.{Searching, search-start, search-on, search-hit, search-end}
 use Rattle.texts.proofs.listed.Statement.{statement}
 use Rattle.texts.proofs.listed.Tie as tie

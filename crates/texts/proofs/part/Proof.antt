@@ -1,6 +1,6 @@
 -- Assumes nothing.
 use borrow.Author.Needs.{needs}
-use Rattle.theory.specs.Parts.{part-is}
+use Rattle.theory.specs.laws.Parts.{part-is}
 use Rattle.texts.proofs.part.Statement.{statement}
 use Rattle.texts.proofs.part.Tie as tie
 

@@ -4,7 +4,8 @@ use Prim.Native.Nat.{_≤_}
 use native.Mathlib.Omega.{arith}
 use borrow.Author.Needs.{needs}
 use lib.ListN.{length}
-use Rattle.theory.specs.Same.{eqs, eqsTo, eqs-lengths, eqs-whole, eqs-on, eqs-off, eqs-none}
+use Rattle.theory.specs.Same.{eqs}
+use Rattle.theory.specs.laws.Same.{eqsTo, eqs-lengths, eqs-whole, eqs-on, eqs-off, eqs-none}
 use Rattle.texts.proofs.same.Statement.{statement}
 use Rattle.texts.proofs.same.Tie as tie
 

@@ -1,7 +1,7 @@
 -- Assumes nothing.
 use borrow.Author.Needs.{needs}
 use mathlib.Core.Path.{sym}
-use Rattle.times.specs.Date.{date-is}
+use Rattle.times.specs.laws.Date.{date-is}
 use Rattle.times.proofs.is_real_date.Statement.{statement}
 use Rattle.times.proofs.is_real_date.Tie as tie
 

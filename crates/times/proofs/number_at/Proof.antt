@@ -3,7 +3,7 @@ use borrow.Author.Needs.{needs}
 use native.Mathlib.Omega.{arith}
 use Rattle.texts.specs.Field.{field}
 use Rattle.numbers.specs.Number.{number}
-use Rattle.texts.specs.Laws.{field-most}
+use Rattle.texts.specs.laws.Field.{field-most}
 use Rattle.times.proofs.number_at.Statement.{statement}
 use Rattle.times.proofs.number_at.Tie as tie
 

@@ -1,5 +1,5 @@
 -- The invariant: those passed are others. Assumes nothing.
-use Rattle.theory.specs.Every.{Leads, leads-start, leads-on, leads-off, leads-end}
+use Rattle.theory.specs.laws.Every.{Leads, leads-start, leads-on, leads-off, leads-end}
 use Rattle.vectors.specs.Vectors.{other}
 use Rattle.vectors.proofs.Laws.{other-end, other-on}
 use mathlib.Core.Path.{refl}

@@ -1,6 +1,6 @@
 -- Assumes nothing.
 use lib.ListN.{length}
-use Rattle.theory.specs.Parts.{length-part}
+use Rattle.theory.specs.laws.Parts.{length-part}
 use Rattle.vectors.proofs.Laws.{lay-lent}
 use mathlib.Core.Path.{refl, ap, _∙_}
 use native.Mathlib.Omega.{arith}

@@ -1,6 +1,6 @@
 -- Assumes nothing.
 use lib.ListN.{length, length-map}
-use Rattle.writing.specs.Put.{put-lent}
+use Rattle.writing.specs.laws.Put.{put-lent}
 use Rattle.vectors.specs.Vectors.{marked}
 use borrow.Author.Needs.{needs}
 use Rattle.vectors.proofs.put_marked.Statement.{statement}

@@ -3,7 +3,7 @@ use Prim.Native.Nat.{_≤_, _-_}
 use native.Mathlib.Omega.{arith}
 use borrow.Author.Needs.{needs}
 use lib.ListN.{length}
-use Rattle.theory.specs.Tally.{Tallied, tallied-start, tallied-turn, tallied-end}
+use Rattle.theory.specs.laws.Tally.{Tallied, tallied-start, tallied-turn, tallied-end}
 use Rattle.theory.specs.Pick.{good}
 use Rattle.verdicts.proofs.Laws.{counts, counts-most}
 use Rattle.verdicts.proofs.count_taken.Statement.{statement}

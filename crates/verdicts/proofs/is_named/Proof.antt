@@ -3,8 +3,8 @@ use mathlib.Core.Path.{sym}
 use Prim.Native.Nat.{_≤_, _-_}
 use native.Mathlib.Omega.{arith}
 use borrow.Author.Needs.{needs}
-use Rattle.theory.specs.Parts.{part-fits}
-use Rattle.theory.specs.Among.{Among, among-start, among-on, among-off, among-end}
+use Rattle.theory.specs.laws.Parts.{part-fits}
+use Rattle.theory.specs.laws.Among.{Among, among-start, among-on, among-off, among-end}
 use Rattle.register.specs.Search.{holdsPan}
 use Rattle.verdicts.proofs.is_named.Statement.{statement}
 use Rattle.verdicts.proofs.is_named.Tie as tie

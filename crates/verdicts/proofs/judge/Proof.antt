@@ -1,8 +1,8 @@
 -- Assumes nothing.
 use mathlib.Core.Path.{_∙_}
-use Rattle.hgv.specs.Laws.{lines-room}
+use Rattle.hgv.specs.laws.Layout.{lines-room}
 use Rattle.hgv.specs.Layout.{linesOf}
-use Rattle.register.specs.Laws.{slots-used}
+use Rattle.register.specs.laws.Register.{slots-used}
 use Rattle.verdicts.specs.Verdict.{verdictsOf, fileVerdicts}
 use borrow.Author.Needs.{needs}
 use Rattle.verdicts.proofs.judge.Statement.{statement}

@@ -4,8 +4,8 @@ use Prim.Native.Nat.{_≤_, _-_}
 use native.Mathlib.Omega.{arith}
 use borrow.Author.Needs.{needs}
 use lib.ListN.{length, length-set}
-use Rattle.theory.specs.Scan.{Judged, judged-start, judged-turn, judged-end}
-use Rattle.theory.specs.Parts.{part-fits}
+use Rattle.theory.specs.laws.Scan.{Judged, judged-start, judged-turn, judged-end}
+use Rattle.theory.specs.laws.Parts.{part-fits}
 use Rattle.register.specs.Register.{slotsOf}
 use Rattle.verdicts.specs.Verdict.{verdict, verdictsOf}
 use Rattle.verdicts.proofs.judge_lines.Statement.{statement}

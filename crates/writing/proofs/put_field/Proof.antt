@@ -1,7 +1,7 @@
 -- Assumes nothing.
 use borrow.Author.Needs.{needs}
 use mathlib.Core.Path.{refl}
-use Rattle.writing.specs.Put.{put-lent}
+use Rattle.writing.specs.laws.Put.{put-lent}
 use Rattle.writing.proofs.put_field.Statement.{statement}
 use Rattle.writing.proofs.put_field.Tie as tie
 

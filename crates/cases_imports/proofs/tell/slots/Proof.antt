@@ -1,5 +1,5 @@
 -- Assumes nothing.
-use Rattle.theory.specs.Parts.{whole-fits}
+use Rattle.theory.specs.laws.Parts.{whole-fits}
 use Prim.Native.Nat.{_≤_, _-_}
 use borrow.Author.Needs.{needs}
 use Rattle.cases_imports.proofs.tell.slots.Statement.{statement}

@@ -1,5 +1,5 @@
 -- Assumes nothing.
-use Rattle.theory.specs.Truth.{and-split}
+use Rattle.theory.specs.laws.Truth.{and-split}
 use borrow.Author.Needs.{needs}
 use mathlib.Core.Path.{_∙_}
 use native.Mathlib.Omega.{arith}

@@ -2,7 +2,7 @@
 use borrow.Author.Needs.{needs}
 use mathlib.Core.Bool.{false≢true}
 use mathlib.Core.Path.{sym}
-use Rattle.theory.specs.Table.{length-cut, cut-fits}
+use Rattle.theory.specs.laws.Table.{length-cut, cut-fits}
 use Rattle.ordering.proofs.Found.{all-zero}
 use Rattle.ordering.proofs.finding.index.Statement.{statement}
 use Rattle.ordering.proofs.finding.index.Tie as tie

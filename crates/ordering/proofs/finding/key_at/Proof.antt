@@ -1,6 +1,6 @@
 -- Assumes nothing.
 use borrow.Author.Needs.{needs}
-use Rattle.theory.specs.Parts.{part-fits}
+use Rattle.theory.specs.laws.Parts.{part-fits}
 use Rattle.ordering.proofs.finding.key_at.Statement.{statement}
 use Rattle.ordering.proofs.finding.key_at.Tie as tie
 

@@ -1,5 +1,5 @@
 -- Assumes nothing.
-use Rattle.theory.specs.Parts.{part-fits}
+use Rattle.theory.specs.laws.Parts.{part-fits}
 use borrow.Author.Needs.{needs}
 use native.Mathlib.Omega.{arith}
 use Rattle.ordering.proofs.Found.{place-unasked, place-asked}

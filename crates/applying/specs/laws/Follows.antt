@@ -1,0 +1,109 @@
+-- The records that follow make a register in order again, of as many slots (T9). Assumes nothing.
+use mathlib.Core.Path.{_≡_, refl, sym, ap, _∙_}
+use mathlib.Core.Bool.{Bool, true, false, not, cond}
+use mathlib.Core.List.{List, [], _∷_, _++_, map}
+use Prim.Native.Nat.{ℕ, _≤_, _<_}
+use native.Mathlib.Omega.{arith}
+use lib.ListN.{length, getD, length-append}
+use borrow.Author.Tests.{ltb-true}
+use Rattle.theory.specs.laws.Same.{eqs-true}
+use Rattle.theory.specs.Each.{Each, none, more}
+use Rattle.theory.specs.Walk.{some}
+use Rattle.theory.specs.Pick.{good, pick}
+use Rattle.theory.specs.Count.{bump}
+use Rattle.theory.specs.Keep.{onto, sift}
+use Rattle.theory.specs.Place.{place}
+use Rattle.theory.specs.laws.Place.{place-hit, place-some}
+use Rattle.theory.specs.laws.Scan.{some-key}
+use Rattle.theory.specs.Join.{flat}
+use Rattle.theory.specs.Pad.{pad}
+use Rattle.times.specs.Time.{realTime}
+use Rattle.columns.specs.Columns.{panOf}
+use Rattle.lines.specs.Rules.{recordHolds}
+use Rattle.lines.specs.End.{recordOf}
+use Rattle.register.specs.Register.{slotLength, slotsIn, records, inOrder}
+use Rattle.register.specs.Search.{holdsPan, placeOf, ofActor}
+use Rattle.holdings.specs.Holdings.{stored, storedAll, others, holdings, isFull}
+use Rattle.holdings.specs.laws.Storing.{stored-held, stored-new, all-grows}
+use Rattle.upkeep.specs.Holds.{Holds}
+use Rattle.upkeep.specs.laws.Stays.{written-length, written-used, as-it-is, replaced, added, closed}
+use Rattle.applying.specs.Fit.{Fit}
+use Rattle.applying.specs.laws.Steps.{markOf, prepared}
+use Rattle.applying.specs.laws.Taken.{prepared-stored}
+
+-- the bytes that hold the records
+abbrev bytesOf : ℕ → List (List ℕ) → List ℕ
+bytesOf n R = flat (pad slotLength n R)
+
+-- what holds them is those bytes
+told : (n : ℕ) (R : List (List ℕ)) (b : List ℕ) → Holds n R b → Holds n R (bytesOf n R)
+told n R b h = rw (← h .bytes) h
+
+module _ (reception : List ℕ) (r : realTime reception ≡ true) (n : ℕ) where
+  -- one line stored
+  module _ (l : List ℕ) (k : recordHolds l ≡ true) (R : List (List ℕ)) (b : List ℕ) (h : Holds n R b) where
+    abbrev x : List ℕ
+    x = recordOf reception l
+
+    held : placeOf (panOf x) R < length R → Holds n (stored x R) (bytesOf n (stored x R))
+    unfolding placeOf holdsPan
+    held p =
+        let i : ℕ = place (holdsPan (panOf x)) R in
+        let hit : panOf x ≡ panOf (getD R i []) = sym (eqs-true _ _ (place-hit (holdsPan (panOf x)) R p)) in
+        rw (stored-held x R p)
+        (told n _ _ (rw (h .many, h .held) at (replaced b (h .order) x (written-length reception l k r) (written-used reception l k r) i (rw (h .held) p) (rw (h .held) hit))))
+
+    new : some (holdsPan (panOf x)) R ≡ false → length (stored x R) ≤ n → Holds n (stored x R) (bytesOf n (stored x R))
+    unfolding holdsPan
+    new p m =
+        let s : stored x R ≡ R ++ x ∷ [] = stored-new x R p in
+        let g : length R < n = omega (arith, ap length s, length-append R (x ∷ [])) in
+        rw s
+        (told n _ _ (rw (h .many, h .held) at (added b (h .order) x (written-length reception l k r) (written-used reception l k r) (rw (h .many, h .held) g) (rw (h .held) (sym (some-key panOf (panOf x) R) ∙ p)))))
+
+    pub holds-stored : length (stored x R) ≤ n → Holds n (stored x R) (bytesOf n (stored x R))
+    unfolding placeOf
+    holds-stored m = go (some (holdsPan (panOf x)) R) refl
+      where
+        go : (t : Bool) → some (holdsPan (panOf x)) R ≡ t → Holds n (stored x R) (bytesOf n (stored x R))
+        go true e = held (ltb-true (place (holdsPan (panOf x)) R) (length R) (sym (place-some (holdsPan (panOf x)) R) ∙ e))
+        go false e = new e m
+
+  -- all of them
+  pub holds-all : {ls : List (List ℕ)} → Each (λ l. recordHolds l ≡ true) ls → (R : List (List ℕ)) (b : List ℕ) → Holds n R b
+      → length (storedAll R (map (recordOf reception) ls)) ≤ n → Holds n (storedAll R (map (recordOf reception) ls)) (bytesOf n (storedAll R (map (recordOf reception) ls)))
+  unfolding storedAll
+  holds-all none R b h m = told n R b h
+  holds-all (more {x = l} {xs = ls} k ks) R b h m =
+      let S : List (List ℕ) = stored (recordOf reception l) R in
+      holds-all ks S (bytesOf n S) (holds-stored l k R b h (omega (arith, all-grows (map (recordOf reception) ls) S))) m
+
+-- those without a mark are the others'
+pub pick-others : (who : List ℕ) (R : List (List ℕ)) → pick good (map (markOf who) R) R ≡ others who R
+unfolding pick others sift markOf bump good
+pick-others who [] = refl
+pick-others who (r ∷ R) = rw (pick-others who R) (go (ofActor who r) refl)
+  where
+    go : (s : Bool) → ofActor who r ≡ s → onto (good (markOf who r)) r (others who R) ≡ onto (not s) r (others who R)
+    go true e = rw e
+    go false e = rw e
+
+-- an actor's records gone
+pub holds-others : (n : ℕ) (who : List ℕ) (R : List (List ℕ)) (b : List ℕ) → Holds n R b → Holds n (others who R) (bytesOf n (others who R))
+holds-others n who R b h =
+    rw (← pick-others who R) (told n _ _ (rw (h .many, h .held) at (closed b (h .order) (map (markOf who) R))))
+
+module _ (mode : ℕ) (who reception b : List ℕ) (ls : List (List ℕ)) (o : inOrder b ≡ true) (f : Fit mode who reception (slotsIn b) (records b) ls) where
+  prepared-holds : Holds (slotsIn b) (prepared mode who (records b)) (bytesOf (slotsIn b) (prepared mode who (records b)))
+  unfolding prepared
+  prepared-holds = go (isFull mode)
+    where
+      go : (t : Bool) → Holds (slotsIn b) (cond t (others who (records b)) (records b)) (bytesOf (slotsIn b) (cond t (others who (records b)) (records b)))
+      go true = holds-others (slotsIn b) who (records b) b (as-it-is b o)
+      go false = told (slotsIn b) (records b) b (as-it-is b o)
+
+  -- the register that holds what follows is in order
+  pub follows : Holds (slotsIn b) (holdings mode who reception (records b) ls) (bytesOf (slotsIn b) (holdings mode who reception (records b) ls))
+  follows =
+      let e : storedAll (prepared mode who (records b)) (map (recordOf reception) ls) ≡ holdings mode who reception (records b) ls = prepared-stored mode who reception (slotsIn b) (records b) ls f in
+      rw (← e) (holds-all reception (f .received) (slotsIn b) (f .lined) (prepared mode who (records b)) _ prepared-holds (rw e (f .room)))

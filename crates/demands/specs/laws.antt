@@ -1,0 +1,10 @@
+pub mod Reasons
+pub mod ReadBack
+pub mod Read
+pub mod Own
+pub mod Mirror
+pub mod Imports
+pub mod Answered
+pub mod Replays
+pub mod Judging
+pub mod Exact

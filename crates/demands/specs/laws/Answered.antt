@@ -1,0 +1,56 @@
+-- What any outcome of reading back, of an update and of a lookup has: its number is that of the first stop that holds; at a stop
+-- zeros, and every lent byte as it was. Assumes nothing.
+use mathlib.Core.Path.{_≡_, refl, sym, ap, _∙_}
+use mathlib.Core.List.{List, _++_}
+use Prim.Native.Nat.{ℕ}
+use Rattle.theory.specs.First.{Decided}
+use Rattle.theory.specs.laws.First.{decided, numbered}
+use Rattle.theory.specs.laws.Stopped.{number-kept}
+use Rattle.lookups.specs.Lookup.{panRules, panNumber, plateRules, plateNumber}
+use Rattle.lookups.specs.Promises.{ByPan, ByPlate}
+use Rattle.provider.specs.declared.Counted.{Counted}
+use Rattle.provider.specs.Answer.{refusal, counted}
+use Rattle.provider.specs.ReadBack.{fileStops, blockStops, readNumber, readAnswer}
+use Rattle.provider.specs.Update.{copyStops, roomStops, updateNumber, updateAnswer}
+use Rattle.provider.specs.Promises.{ReadBack, Update}
+use Rattle.provider.specs.laws.Numbers.{read-refused, verdicts-stay, update-refused, copy-stays}
+
+-- ---- reading back
+
+module _ (h g block : List ℕ) (r : Counted) (v : List ℕ) (o : ReadBack h g block r v) where
+  read-is : r .number ≡ readNumber h g block
+  unfolding ReadBack readAnswer counted refusal
+  read-is = ap (λ (a : Counted). a .number) (o .0) ∙ number-kept (λ (a : Counted). a .number) (readNumber h g block) (counted h g) (refusal (readNumber h g block)) refl refl
+
+  pub read-decided : Decided (fileStops h ++ blockStops h g block) (r .number)
+  unfolding readNumber fileStops blockStops numbered
+  read-decided = decided (fileStops h ++ blockStops h g block) refl (r .number) read-is
+
+  pub read-refusal : (r .number ≡ 0 → ⊥) → (r ≡ record { number = r .number; taken = 0; rejected = 0 }) × (v ≡ block)
+  unfolding ReadBack refusal
+  read-refusal k = (o .0 ∙ sym (read-refused h g block (r .number) read-is k), o .1 ∙ sym (verdicts-stay h g block (r .number) read-is k))
+
+-- ---- the update
+
+module _ (mode : ℕ) (copy h g : List ℕ) (r : Counted) (c : List ℕ) (o : Update mode copy h g r c) where
+  update-is : r .number ≡ updateNumber mode copy h g
+  unfolding Update updateAnswer counted refusal
+  update-is = ap (λ (a : Counted). a .number) (o .0) ∙ number-kept (λ (a : Counted). a .number) (updateNumber mode copy h g) (counted h g) (refusal (updateNumber mode copy h g)) refl refl
+
+  pub update-decided : Decided (copyStops mode copy h ++ roomStops mode copy h g) (r .number)
+  unfolding updateNumber copyStops roomStops numbered
+  update-decided = decided (copyStops mode copy h ++ roomStops mode copy h g) refl (r .number) update-is
+
+  pub update-refusal : (r .number ≡ 0 → ⊥) → (r ≡ record { number = r .number; taken = 0; rejected = 0 }) × (c ≡ copy)
+  unfolding Update refusal
+  update-refusal k = (o .0 ∙ sym (update-refused mode copy h g (r .number) update-is k), o .1 ∙ sym (copy-stays mode copy h g (r .number) update-is k))
+
+-- ---- the lookups
+
+pub pan-decided : (b key part : List ℕ) (number : ℕ) → ByPan b key part number → Decided (panRules b key) number
+unfolding panNumber panRules numbered
+pan-decided b key part number o = decided (panRules b key) refl number (o .0)
+
+pub plate-decided : (b p n t part : List ℕ) (number : ℕ) → ByPlate b p n t part number → Decided (plateRules b p n t) number
+unfolding plateNumber plateRules numbered
+plate-decided b p n t part number o = decided (plateRules b p n t) refl number (o .0)

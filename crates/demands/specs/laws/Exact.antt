@@ -1,0 +1,131 @@
+-- What any outcome of an accepted import has: its counts, the register and the HGC after it, and what is read back of it, each told
+-- by the verdicts of the file's lines (T7, T9, T10, T11). Assumes nothing.
+use mathlib.Core.Path.{_≡_, refl, sym, ap, _∙_}
+use mathlib.Core.Bool.{true, false}
+use mathlib.Core.List.{List, [], _++_, map}
+use Prim.Native.Nat.{ℕ, _+_, _≤_, _<_}
+use native.Mathlib.Omega.{arith}
+use lib.ListN.{length, take, drop, getD}
+use Rattle.theory.specs.Parts.{partAt}
+use Rattle.theory.specs.Pick.{good, bad, pick}
+use Rattle.theory.specs.Tally.{tally}
+use Rattle.theory.specs.Join.{flat}
+use Rattle.theory.specs.laws.Join.{getD-chop}
+use Rattle.theory.specs.Pad.{pad}
+use Rattle.numbers.specs.Number.{number}
+use Rattle.lines.specs.End.{recordOf}
+use Rattle.hgv.specs.Layout.{linesIn, linesOf}
+use Rattle.header.specs.Header.{sender, count}
+use Rattle.register.specs.Register.{slotLength, slotsIn, records, usedIn, inOrder}
+use Rattle.register.specs.Search.{ofActor}
+use Rattle.register.specs.laws.Register.{records-chop}
+use Rattle.verdicts.specs.Verdict.{fileVerdicts, taken}
+use Rattle.hgc.specs.Confirmation.{confirmation}
+use Rattle.holdings.specs.Holdings.{others, isFull, holdings}
+use Rattle.holdings.specs.laws.Storing.{all-grows}
+use Rattle.upkeep.specs.Holds.{Holds}
+use Rattle.importer.specs.declared.Imported.{Imported}
+use Rattle.importer.specs.Import.{judged, following, confirmed, numberOf, success, told}
+use Rattle.importer.specs.Promises.{Import}
+use Rattle.importer.specs.laws.Follows.{adds-up, holds-following, others-same, places-same}
+use Rattle.provider.specs.declared.Counted.{Counted}
+use Rattle.provider.specs.Answer.{refusal}
+use Rattle.provider.specs.Promises.{ReadBack}
+use Rattle.demands.specs.laws.Read.{sentBack, sameCounts, short-answer, short-block, read-answer, read-verdicts}
+use Rattle.demands.specs.History.{Handed, Imports}
+use Rattle.demands.specs.laws.Imports.{number-0, done-is, register-is, hgc-is}
+use Rattle.demands.specs.Verdicts.{Verdicts}
+use Rattle.demands.specs.laws.Judging.{verdicts-only}
+
+-- a record is the part at its place
+record-at : (b : List ℕ) (i : ℕ) → i < usedIn b → partAt slotLength i b ≡ getD (records b) i []
+record-at b i l = sym (ap (λ (R : List (List ℕ)). getD R i []) (records-chop b) ∙ getD-chop slotLength (usedIn b) b i l)
+
+module _ (f : Handed) (register : List ℕ) (r : Imported) (b g : List ℕ) (o : Imports f register r b g) (z : r .number ≡ 0) where
+  abbrev from : List ℕ
+  from = sender (f .hgv)
+
+  e : numberOf (f .mode) (f .reception) register (f .rows) (f .hgv) (f .hgc) ≡ 0
+  e = number-0 f register r b g o z
+
+  holds : Holds (slotsIn register) (following (f .mode) (f .reception) register (f .rows) (f .hgv)) b
+  holds = rw (register-is f register r b g o z) (holds-following (f .mode) (f .reception) register (f .rows) (f .hgv) (f .hgc) e)
+
+  -- ---- the counts
+
+  pub counts-add-up : r .taken + r .rejected ≡ number (count (f .hgv))
+  unfolding success
+  counts-add-up = rw (done-is f register r b g o z) (adds-up (f .mode) (f .reception) register (f .rows) (f .hgv) (f .hgc) e)
+
+  -- ---- the register
+
+  pub order-again : inOrder b ≡ true
+  order-again = holds .order
+
+  pub slots-same : slotsIn b ≡ slotsIn register
+  slots-same = holds .many
+
+  -- the records, and free slots behind them
+  pub bytes-are : b ≡ flat (pad slotLength (slotsIn register) (records b))
+  bytes-are = rw (holds .held) (holds .bytes)
+
+  pub others-are : others from (records b) ≡ others from (records register)
+  others-are = rw (holds .held) (others-same (f .mode) (f .reception) register (f .rows) (f .hgv) (f .hgc) e)
+
+  -- incremental: no record goes
+  used-grows : isFull (f .mode) ≡ false → usedIn register ≤ usedIn b
+  unfolding following holdings
+  used-grows m =
+      rw (holds .held, m) (all-grows (map (recordOf (f .reception)) (taken (judged register (f .rows) (f .hgv)) (f .hgv))) (records register))
+
+  pub places-are : f .mode ≡ 1 → (i : ℕ) → i < usedIn register → ofActor from (partAt slotLength i register) ≡ false → partAt slotLength i b ≡ partAt slotLength i register
+  unfolding isFull
+  places-are m i l k =
+      let w : isFull (f .mode) ≡ false = rw m refl in
+      record-at b i (omega (arith, used-grows w))
+      ∙ rw (holds .held) (places-same (f .mode) (f .reception) register (f .rows) (f .hgv) (f .hgc) e w i l (rw (← record-at register i l) k))
+      ∙ sym (record-at register i l)
+
+  -- ---- by the verdicts of the lines
+
+  module _ (vs : List ℕ) (v : Verdicts (f .rows) from (records register) (linesOf (f .hgv)) vs) where
+    judged-is : judged register (f .rows) (f .hgv) ≡ vs
+    unfolding judged fileVerdicts
+    judged-is = sym (verdicts-only (f .rows) from (records register) (linesOf (f .hgv)) vs v)
+
+    pub taken-is : r .taken ≡ tally good vs
+    unfolding success
+    taken-is = ap (λ (a : Imported). a .taken) (done-is f register r b g o z) ∙ ap (tally good) judged-is
+
+    pub rejected-is : r .rejected ≡ tally bad vs
+    unfolding success
+    rejected-is = ap (λ (a : Imported). a .rejected) (done-is f register r b g o z) ∙ ap (tally bad) judged-is
+
+    pub records-are : records b ≡ holdings (f .mode) from (f .reception) (records register) (pick good vs (linesOf (f .hgv)))
+    unfolding following taken
+    records-are = holds .held ∙ rw judged-is
+
+    pub length-is : r .length ≡ length (confirmation (f .reception) (f .hgv) vs)
+    unfolding success confirmed
+    length-is = ap (λ (a : Imported). a .length) (done-is f register r b g o z) ∙ rw judged-is
+
+    pub buffer-is : g ≡ confirmation (f .reception) (f .hgv) vs ++ drop (r .length) (f .hgc)
+    unfolding told confirmed
+    buffer-is = hgc-is f register r b g o z ∙ rw (judged-is, length-is)
+
+    -- ---- read back, by any outcome of it
+
+    module _ (block : List ℕ) (u : Counted) (w : List ℕ) (p : ReadBack (f .hgv) (take (r .length) g) block u w) where
+      pub read-is : linesIn (f .hgv) ≤ length block → (u ≡ record { number = 0; taken = r .taken; rejected = r .rejected }) × (w ≡ vs ++ drop (linesIn (f .hgv)) block)
+      unfolding Import ReadBack sentBack sameCounts
+      read-is m = (
+        rw (p .0, o .1 .1, o .0) (read-answer (f .mode) (f .reception) register (f .rows) (f .hgv) (f .hgc) e block m),
+        rw (p .1, o .1 .1, o .0, ← judged-is) (read-verdicts (f .mode) (f .reception) register (f .rows) (f .hgv) (f .hgc) e block m),
+      )
+
+      pub short-is : length block < linesIn (f .hgv) → (u ≡ refusal 53) × (w ≡ block)
+      unfolding Import ReadBack sentBack
+      short-is m = (
+        rw (p .0, o .1 .1, o .0) (short-answer (f .mode) (f .reception) register (f .rows) (f .hgv) (f .hgc) e block m),
+        rw (p .1, o .1 .1, o .0) (short-block (f .mode) (f .reception) register (f .rows) (f .hgv) (f .hgc) e block m),
+      )

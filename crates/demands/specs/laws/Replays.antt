@@ -1,0 +1,163 @@
+-- T13: whoever replays what was sent to him comes to his part of the register. It holds at the start, and each import hands it
+-- on. Assumes nothing.
+use mathlib.Core.Path.{_≡_, refl, _∙_}
+use mathlib.Core.Bool.{Bool, true, false}
+use mathlib.Core.List.{List, [], _∷_}
+use Prim.Native.Nat.{ℕ, zero, suc, _+_, _-_, _*_, _≤_}
+use native.Mathlib.Omega.{arith}
+use native.Mathlib.Nat.{zero-mul}
+use lib.Dec.{eqb}
+use lib.ListN.{take, replicate, replicate-append-replicate}
+use borrow.Author.Tests.{eqb-true, eqb-false}
+use Rattle.theory.specs.Same.{eqs}
+use Rattle.theory.specs.laws.Same.{eqs-true}
+use Rattle.theory.specs.Each.{none}
+use Rattle.theory.specs.Keep.{onto, sift}
+use Rattle.theory.specs.Distinct.{distinct}
+use Rattle.theory.specs.Join.{flat}
+use Rattle.theory.specs.Pad.{free, pad}
+use Rattle.header.specs.Header.{sender}
+use Rattle.register.specs.Register.{slotLength, slotsMost, slotsIn, records, inOrder}
+use Rattle.register.specs.laws.Register.{records-pad, order-pad, slots-pad}
+use Rattle.upkeep.specs.Holds.{Holds}
+use Rattle.importer.specs.declared.Imported.{Imported}
+use Rattle.importer.specs.Promises.{Import}
+use Rattle.provider.specs.declared.Counted.{Counted}
+use Rattle.provider.specs.Promises.{Update}
+use Rattle.provider.specs.laws.Outcomes.{update-one}
+use Rattle.demands.specs.laws.Read.{sentBack, sameCounts}
+use Rattle.demands.specs.Own.{own}
+use Rattle.demands.specs.laws.Mirror.{Mirrors, after-holds, another-mirrors, update-answer, update-mirrors}
+use Rattle.demands.specs.History.{Handed, Imports, Entry, apply, Event, acceptance, concerns, his, entries, answers, empty, Ours, start, accepted, refused, Replay, applied}
+use Rattle.demands.specs.laws.Imports.{number-0, refused-register}
+
+-- ---- at the start
+
+-- free slots are zero bytes
+flat-free : (w n : ℕ) → flat (replicate n (free w)) ≡ replicate {A = ℕ} (n * w) 0
+unfolding flat free
+flat-free w zero = rw (zero-mul w)
+flat-free w (suc n) =
+    let e : w + n * w ≡ suc n * w = omega arith in
+    rw (flat-free w n) (replicate-append-replicate w (n * w) 0 ∙ rw e)
+
+-- and make the empty register
+empty-is : (n : ℕ) → flat (pad slotLength n []) ≡ empty n
+unfolding empty pad
+empty-is n = let e : n - 0 ≡ n = omega arith in rw e (flat-free slotLength n)
+
+-- which is in order, and has no record
+start-holds : (n : ℕ) → n ≤ slotsMost → Holds n [] (empty n)
+unfolding distinct
+start-holds n m =
+    rw (← empty-is n)
+    (record { order = order-pad n none (omega arith) none refl m; held = records-pad n none (omega arith) none; bytes = refl; many = slots-pad n none (omega arith) })
+
+-- ---- one import
+
+module _ (f : Handed) (register : List ℕ) (r : Imported) (b g : List ℕ) (o : Imports f register r b g) (z : r .number ≡ 0) where
+  -- the register after it is in order, of as many slots
+  pub after-order : inOrder b ≡ true
+  unfolding Import
+  after-order = rw (o .1 .0) (after-holds (f .mode) (f .reception) register (f .rows) (f .hgv) (f .hgc) (number-0 f register r b g o z) .order)
+
+  pub after-many : slotsIn b ≡ slotsIn register
+  unfolding Import
+  after-many = rw (o .1 .0) (after-holds (f .mode) (f .reception) register (f .rows) (f .hgv) (f .hgc) (number-0 f register r b g o z) .many)
+
+  -- the copy of another mirrors it as it was
+  pub another-step : (who copy : List ℕ) → eqs (sender (f .hgv)) who ≡ false → Mirrors who register copy → Mirrors who b copy
+  unfolding Import
+  another-step who copy d m = rw (o .1 .0) (another-mirrors (f .mode) (f .reception) register (f .rows) (f .hgv) (f .hgc) (number-0 f register r b g o z) who copy d m)
+
+  -- the sender's, updated by what was sent back, mirrors it again, and the update answered the import's own counts
+  pub applied-step : (copy : List ℕ) → Mirrors (sender (f .hgv)) register copy → (u : Counted) (c : List ℕ) → Update (f .mode) copy (f .hgv) (take (r .length) g) u c
+      → Mirrors (sender (f .hgv)) b c × (u ≡ acceptance f r g .counted)
+  unfolding Import Update sentBack sameCounts acceptance
+  applied-step copy m u c (a, s) =
+      let e = number-0 f register r b g o z in
+      rw (o .1 .0, a, s, o .1 .1, o .0)
+      (update-mirrors (f .mode) (f .reception) register (f .rows) (f .hgv) (f .hgc) e copy m, update-answer (f .mode) (f .reception) register (f .rows) (f .hgv) (f .hgc) e copy m)
+
+-- ---- every sequence
+
+-- of a register and what was sent back: it is in order, of n slots; and whoever replays what is his comes to a copy in order, of n
+-- slots, that holds his records in our order, byte for byte, and his updates answered the imports' own counts
+pub record Stands (n : ℕ) (who register : List ℕ) (es : List Event) : Type 0 where
+  pub order : inOrder register ≡ true
+  pub many : slotsIn register ≡ n
+  pub replayed : (copy : List ℕ) (us : List Counted) → Replay n (entries (his who es)) copy us → Holds n (own who (records register)) copy × (us ≡ answers (his who es))
+
+-- nothing was sent back, and nothing is applied
+none-replayed : {n : ℕ} {copy : List ℕ} {us : List Counted} → n ≤ slotsMost → Replay n [] copy us → Holds n [] copy × (us ≡ [])
+none-replayed {n} m start = (start-holds n m, refl)
+
+start-stands : (n : ℕ) (who : List ℕ) → n ≤ slotsMost → Stands n who (empty n) []
+unfolding his own sift
+start-stands n who m =
+    let s : Holds n [] (empty n) = start-holds n m in
+    record { order = s .order; many = s .many; replayed = λ copy us p. rw (s .held) (none-replayed m p) }
+
+module _ {n : ℕ} {who register : List ℕ} {es : List Event} (s : Stands n who register es) (f : Handed) (r : Imported) (b g : List ℕ) (o : Imports f register r b g) where
+  -- an accepted file, his or another's
+  module _ (z : r .number ≡ 0) where
+    accepted-replayed : (t : Bool) → eqs (sender (f .hgv)) who ≡ t → (copy : List ℕ) (us : List Counted)
+        → Replay n (entries (onto t (acceptance f r g) (his who es))) copy us → Holds n (own who (records b)) copy × (us ≡ answers (onto t (acceptance f r g) (his who es)))
+    unfolding onto acceptance
+    accepted-replayed true e c us₁ (applied {copy = copy} {us = us} p x u c₁ d) =
+        let m : Holds n (own who (records register)) copy × (us ≡ answers (his who es)) = s .replayed copy us p in
+        let w : eqs (sender (f .hgv)) who ≡ true = e in
+        let a = applied-step f register r b g o z copy (rw (s .many, eqs-true (sender (f .hgv)) who w) (m .0)) u c d in
+        (rw (← eqs-true (sender (f .hgv)) who w, ← s .many, ← after-many f register r b g o z) (a .0), rw (a .1, m .1))
+    accepted-replayed false e c us p =
+        let m = s .replayed c us p in
+        (rw (← s .many, ← after-many f register r b g o z) (another-step f register r b g o z who c e (rw (s .many) (m .0))), m .1)
+
+    accepted-stands : Stands n who b (acceptance f r g ∷ es)
+    unfolding his sift concerns acceptance
+    accepted-stands =
+        record {
+          order = after-order f register r b g o z;
+          many = after-many f register r b g o z ∙ s .many;
+          replayed = accepted-replayed (eqs (sender (f .hgv)) who) refl;
+        }
+
+  -- a refused file
+  refused-stands : (r .number ≡ 0 → ⊥) → Stands n who b es
+  refused-stands k = rw (refused-register f register r b g o k) s
+
+-- T13
+pub stands : {n : ℕ} {register : List ℕ} {es : List Event} → Ours n register es → (who : List ℕ) → Stands n who register es
+stands {n} (start m) who = start-stands n who m
+stands (accepted s f r b g o z) who = accepted-stands (stands s who) f r b g o z
+stands (refused s f r b g o k) who = refused-stands (stands s who) f r b g o k
+
+-- ---- he needs nothing else
+
+-- two replays of the same end in the same bytes and the same answers
+pub replay-one : {n : ℕ} {es : List Entry} {c c′ : List ℕ} {us us′ : List Counted} → Replay n es c us → Replay n es c′ us′ → (c ≡ c′) × (us ≡ us′)
+replay-one start start = (refl, refl)
+replay-one (applied {copy = copy} p s u c o) (applied {copy = copy′} p′ s′ u′ c′ o′) =
+    let e = replay-one p p′ in
+    let d = update-one (s .mode) copy (s .hgv) (s .hgc) u u′ c c′ o (rw (← e .0) at o′) in
+    (d .1, rw (d .0, e .1))
+
+-- ---- there are such sequences
+
+-- it goes on whatever is handed over next, and whatever of the outcomes that the contract admits comes of it
+pub goes-on : {n : ℕ} {register : List ℕ} {es : List Event} → Ours n register es → (f : Handed) (r : Imported) (b g : List ℕ) → Imports f register r b g
+    → (vs : List Event) × Ours n b vs
+goes-on {n} {es = es} s f r b g o = go (eqb (r .number) 0) refl
+  where
+    go : (t : Bool) → eqb (r .number) 0 ≡ t → (vs : List Event) × Ours n b vs
+    go true e = (_, accepted s f r b g o (eqb-true (r .number) 0 e))
+    go false e = (es, refused s f r b g o (eqb-false (r .number) 0 e))
+
+-- whatever was sent can be replayed
+pub can-replay : (n : ℕ) (es : List Entry) → (copy : List ℕ) × (us : List Counted) × Replay n es copy us
+unfolding Update
+can-replay n [] = (_, _, start)
+can-replay n (apply s ∷ es) = go (can-replay n es)
+  where
+    go : (copy : List ℕ) × (us : List Counted) × Replay n es copy us → (c : List ℕ) × (vs : List Counted) × Replay n (apply s ∷ es) c vs
+    go (copy, us, p) = (_, _, applied p s _ _ (refl, refl))

@@ -1,0 +1,16 @@
+-- Two outcomes of one call are one, for each public function of this crate. Assumes nothing.
+use mathlib.Core.Path.{_≡_}
+use mathlib.Core.Bool.{Bool}
+use mathlib.Core.List.{List}
+use Prim.Native.Nat.{ℕ}
+use Rattle.theory.specs.laws.Outcome.{one-outcome}
+use Rattle.frames.specs.Promises.{IsFooter, HasFooter, HasFrames}
+
+pub is-footer-one : (f : List ℕ) (r s : Bool) → IsFooter f r → IsFooter f s → r ≡ s
+is-footer-one f r s = one-outcome
+
+pub has-footer-one : (h : List ℕ) (r s : Bool) → HasFooter h r → HasFooter h s → r ≡ s
+has-footer-one h r s = one-outcome
+
+pub has-frames-one : (h : List ℕ) (r s : Bool) → HasFrames h r → HasFrames h s → r ≡ s
+has-frames-one h r s = one-outcome

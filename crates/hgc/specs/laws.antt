@@ -1,0 +1,4 @@
+pub mod Confirmation
+pub mod Fields
+pub mod Whole
+pub mod Outcomes

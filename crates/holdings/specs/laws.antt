@@ -1,0 +1,4 @@
+pub mod Storing
+pub mod Room
+pub mod AtOnce
+pub mod Outcomes

@@ -1,0 +1,100 @@
+-- What a file has whose form is right, and whose lines are judged: enough to reckon what follows, and to apply it.
+-- Assumes nothing.
+use mathlib.Core.Path.{_≡_, ap, _∙_}
+use mathlib.Core.Bool.{true, false}
+use mathlib.Core.List.{List, map}
+use Prim.Native.Nat.{ℕ, _*_, _≤_}
+use native.Mathlib.Omega.{arith}
+use lib.ListN.{length}
+use Rattle.theory.specs.Each.{Each}
+use Rattle.theory.specs.laws.Each.{each-map}
+use Rattle.theory.specs.Parts.{chop}
+use Rattle.theory.specs.Pick.{good, bad, pick}
+use Rattle.theory.specs.Tally.{tally}
+use Rattle.theory.specs.Distinct.{distinct}
+use Rattle.times.specs.laws.Moment.{real-length}
+use Rattle.columns.specs.Columns.{panOf}
+use Rattle.lines.specs.Rules.{recordHolds, L2}
+use Rattle.lines.specs.Faultless.{Faultless}
+use Rattle.lines.specs.laws.Faultless.{faultless-record}
+use Rattle.records.specs.laws.Written.{record-front}
+use Rattle.records.specs.laws.Holds.{record-long}
+use Rattle.hgv.specs.Layout.{lineLength, linesMost, linesIn, body, linesOf}
+use Rattle.hgv.specs.laws.Layout.{lines-room, lines-most}
+use Rattle.header.specs.Header.{sender}
+use Rattle.header.specs.laws.Header.{header-sender}
+use Rattle.register.specs.Register.{records, slotsIn}
+use Rattle.register.specs.Search.{ofActor, heldByAnother}
+use Rattle.verdicts.specs.Verdict.{taken}
+use Rattle.verdicts.specs.laws.Verdict.{length-verdicts, each-faultless, each-free, taken-apart}
+use Rattle.hgc.specs.Confirmation.{confirmationLength}
+use Rattle.hgc.specs.laws.Confirmation.{length-confirmation}
+use Rattle.holdings.specs.Room.{usedAfter}
+use Rattle.holdings.specs.laws.Room.{used-after}
+use Rattle.stops.specs.laws.Clear.{Clear}
+use Rattle.importer.specs.Import.{judged, following, confirmed}
+
+module _ (mode : ℕ) (reception register rows h : List ℕ) (c : Clear mode reception register rows h) where
+  -- ---- the taken lines
+
+  abbrev ls : List (List ℕ)
+  ls = taken (judged register rows h) h
+
+  faultless : Each (Faultless rows (sender h)) ls
+  unfolding judged
+  faultless = each-faultless rows (records register) h
+
+  -- they meet the rules of a record, and are the sender's
+  pub lines-hold : Each (λ l. recordHolds l ≡ true) ls
+  lines-hold = each-map (λ l f. faultless-record rows (sender h) l f (header-sender h (c .headed))) faultless
+
+  pub lines-his : Each (λ l. ofActor (sender h) l ≡ true) ls
+  unfolding ofActor L2
+  lines-his = each-map (λ l f. f .l2) faultless
+
+  -- no two have one PAN, and no other actor holds it
+  pub lines-apart : distinct (map panOf ls) ≡ true
+  unfolding judged
+  lines-apart = taken-apart rows (records register) h
+
+  pub lines-free : Each (λ l. heldByAnother (panOf l) (sender h) (records register) ≡ false) ls
+  unfolding judged
+  lines-free = each-free rows (records register) h
+
+  -- the number of records that follow, as it is reckoned
+  pub following-used : usedAfter mode (sender h) (records register) ls ≡ length (following mode reception register rows h)
+  unfolding following
+  following-used =
+      used-after reception mode (sender h) (records register) ls
+      (each-map (λ l r. record-front reception l (record-long l r) (real-length reception (c .received)) 14 32 (omega arith) (omega arith) (omega arith)) lines-hold) lines-apart
+
+  -- ---- as the code has them: vs are the verdicts
+
+  module _ (vs : List ℕ) (e : vs ≡ judged register rows h) where
+    pub verdict-each : length vs ≡ linesIn h
+    unfolding judged
+    verdict-each = ap length e ∙ length-verdicts rows (records register) h
+
+    pub lines-there : length vs * lineLength ≤ length (body h)
+    lines-there = rw verdict-each (lines-room h)
+
+    pub verdicts-most : length vs ≤ linesMost
+    verdicts-most = omega (arith, verdict-each, lines-most h (c .sized))
+
+    -- the lines that the body's parts are
+    pub lines-are : pick good vs (chop lineLength (length vs) (body h)) ≡ ls
+    unfolding taken linesOf
+    lines-are = rw (verdict-each, e)
+
+    pub confirmed-length : (r : ℕ) → r ≡ tally bad vs → length (confirmed reception register rows h) ≡ confirmationLength r
+    unfolding confirmed
+    confirmed-length r f = rw (← e, f) (length-confirmation reception h vs (real-length reception (c .received)) (c .sized) verdict-each)
+
+-- the file's form is right, its lines are judged, and there is room for what follows
+pub record Accepted (mode : ℕ) (reception register rows h hgc vs : List ℕ) (t r : ℕ) : Type 0 where
+  pub clear : Clear mode reception register rows h
+  pub verdicts : vs ≡ judged register rows h
+  pub taken-are : t ≡ tally good vs
+  pub rejected-are : r ≡ tally bad vs
+  pub slots : length (following mode reception register rows h) ≤ slotsIn register
+  pub buffer : length (confirmed reception register rows h) ≤ length hgc

@@ -1,0 +1,5 @@
+pub mod Faultless
+pub mod Coverage
+pub mod Ends
+pub mod Starred
+pub mod Outcomes

@@ -1,0 +1,311 @@
+-- Each position of a record from 2 to 127 is fixed by a rule (T17): a table of the positions, the rule that fixes them and
+-- the bytes that it admits there. So no byte of a record is a control character, and stop 32's byte test asks nothing more
+-- of it. Assumes nothing.
+use mathlib.Core.Path.{_≡_, refl, sym, _∙_}
+use mathlib.Core.Bool.{Bool, true, false, not, _&&_, _||_, true≢false}
+use mathlib.Core.List.{List, [], _∷_}
+use Prim.Native.Nat.{ℕ, _+_, _-_, _≤_, _<_}
+use native.Mathlib.Omega.{arith}
+use lib.Dec.{eqb, leb}
+use lib.ListN.{length, take, drop, getD}
+use lib.Seq.{getD-take, getD-drop}
+use borrow.Author.Tests.{eqb-true, leb-true, leb-false, le-leb, not-true}
+use Rattle.theory.specs.Text.{bytes}
+use Rattle.theory.specs.laws.Truth.{and-left, and-right, and-split, or-true, joined, joined-each}
+use Rattle.theory.specs.Each.{Each, none, more}
+use Rattle.theory.specs.laws.Each.{each-map, each-both}
+use Rattle.theory.specs.Every.{all, run}
+use Rattle.theory.specs.laws.Every.{run-length, run-all, all-run, all-at, run-wider, run-append}
+use Rattle.theory.specs.Table.{tableFrom, tableOf}
+use Rattle.theory.specs.laws.Table.{entry, length-table}
+use Rattle.texts.specs.Field.{field, listed}
+use Rattle.texts.specs.laws.Field.{field-most, field-split, field-field}
+use Rattle.fields.specs.Field.{between, digit, zeroDigit, blank, capital, plain}
+use Rattle.fields.specs.laws.Listed.{listed-run}
+use Rattle.characters.specs.Characters.{hex, filled}
+use Rattle.characters.specs.laws.Filled.{filled-all}
+use Rattle.numbers.specs.Number.{number}
+use Rattle.times.specs.Time.{realTime}
+use Rattle.times.specs.laws.Moment.{within, real-length, real-all}
+use Rattle.pans.specs.Pan.{pan}
+use Rattle.plates.specs.Plate.{allowed, plate, nationality, separator, separated, plateCharacters}
+use Rattle.columns.specs.Columns.{text, actor, panOf, plateOf, nationalityOf, tariff, class, axles, emission, fuel, chargeable, productRest, engine, validTo, separatorOf}
+use Rattle.vehicles.specs.Vehicle.{L10, tariffHolds, classHolds, emissionHolds, productHolds, engineHolds, validToHolds, separatorHolds}
+use Rattle.vehicles.specs.laws.Parts.{Parts, l10-parts}
+use Rattle.lines.specs.Rules.{L1, L5, L6, L7, L8, L9, recordHolds}
+
+-- positions `from` to `to`, the rule that fixes them, and the bytes that it admits there
+pub record Row : Type 0 where
+  pub from : ℕ
+  pub to : ℕ
+  pub rule : List ℕ → Bool
+  pub admits : ℕ → Bool
+
+abbrev pub row : ℕ → ℕ → (List ℕ → Bool) → (ℕ → Bool) → Row
+row from to rule admits = record { from = from; to = to; rule = rule; admits = admits }
+
+abbrev pub orBlank : (ℕ → Bool) → ℕ → Bool
+orBlank p b = p b || blank b
+
+-- one of these characters
+unfoldable pub oneOf : List ℕ → ℕ → Bool
+oneOf [] b = false
+oneOf (x ∷ xs) b = eqb b x || oneOf xs b
+
+-- a record's actor has six digits
+abbrev pub sixDigits : List ℕ → Bool
+sixDigits l = run digit 6 (actor l)
+
+unfoldable pub rows : List Row
+rows =
+    row 2 7 sixDigits digit
+    ∷ row 8 13 L10 blank
+    ∷ row 14 32 L1 (orBlank digit)
+    ∷ row 33 42 L6 (orBlank allowed)
+    ∷ row 43 44 L7 capital
+    ∷ row 45 45 L7 blank
+    ∷ row 46 47 L10 (oneOf (bytes "1234567"))
+    ∷ row 48 48 L10 (orBlank digit)
+    ∷ row 49 49 L10 (orBlank digit)
+    ∷ row 50 61 L8 hex
+    ∷ row 62 79 L9 hex
+    ∷ row 80 85 L10 (oneOf (bytes "01234567EVuro "))
+    ∷ row 86 87 L10 (oneOf (bytes "01234569"))
+    ∷ row 88 88 L10 (oneOf (bytes "YN"))
+    ∷ row 89 91 L10 blank
+    ∷ row 92 94 L10 digit
+    ∷ row 95 96 L10 digit
+    ∷ row 97 100 L10 digit
+    ∷ row 101 114 L10 digit
+    ∷ row 115 116 L10 digit
+    ∷ row 117 127 L10 zeroDigit
+    ∷ []
+
+-- the rows go from the position a to b, without gap or overlap
+unfoldable pub cover : ℕ → ℕ → List Row → Bool
+cover a b [] = eqb a (b + 1)
+cover a b (r ∷ rs) = eqb a (r .from) && leb a (r .to) && cover (r .to + 1) b rs
+
+pub rows-cover : cover 2 127 rows ≡ true
+unfolding cover rows
+rows-cover = refl
+
+-- a row lies at a position, and admits this byte there
+unfoldable pub admitted : List Row → ℕ → ℕ → Bool
+admitted [] p b = false
+admitted (r ∷ rs) p b = between (r .from) (r .to) p && r .admits b || admitted rs p b
+
+-- the row's positions are all there, and what stands in them is admitted
+abbrev pub Held : List ℕ → Row → Type 0
+Held l r = run (r .admits) (r .to + 1 - r .from) (field (r .from) (r .to) l) ≡ true
+
+-- ---- a rule holds only where its positions do
+
+-- one of two tests holds
+either : (P : Type 0) (a b : Bool) → a || b ≡ true → (a ≡ true → P) → (b ≡ true → P) → P
+either P true b h f g = f refl
+either P false b h f g = g h
+
+zero-digit : (b : ℕ) → zeroDigit b ≡ true → digit b ≡ true
+zero-digit b h = let s = within 48 48 b h in let e : b ≡ 48 = omega arith in rw e
+
+module _ (l : List ℕ) where
+  pan-held : L1 l ≡ true → Held l (row 14 32 L1 (orBlank digit))
+  unfolding L1 pan
+  pan-held h =
+      let s = and-split (eqb (length (panOf l)) 19) (filled digit (panOf l)) h in
+      all-run (orBlank digit) 19 (panOf l) (eqb-true (length (panOf l)) 19 (s .0)) (filled-all digit (panOf l) (s .1))
+
+  plate-held : L6 l ≡ true → Held l (row 33 42 L6 (orBlank allowed))
+  unfolding L6 plate
+  plate-held h =
+      let s = and-split (eqb (length (plateOf l)) 10) (filled allowed (plateOf l)) h in
+      all-run (orBlank allowed) 10 (plateOf l) (eqb-true (length (plateOf l)) 10 (s .0)) (filled-all allowed (plateOf l) (s .1))
+
+  nationality-held : L7 l ≡ true → Held l (row 43 44 L7 capital) × Held l (row 45 45 L7 blank)
+  unfolding L7 nationality
+  nationality-held h =
+      let f : List ℕ = nationalityOf l in
+      let s₂ = and-split (eqb (length f) 3 && run capital 2 (field 1 2 f)) (run blank 1 (field 3 3 f)) h in
+      let s₁ = and-split (eqb (length f) 3) (run capital 2 (field 1 2 f)) (s₂ .0) in
+      (rw (field-field 1 2 43 45 l (omega arith) (omega arith) (omega arith)) at (s₁ .1), rw (field-field 3 3 43 45 l (omega arith) (omega arith) (omega arith)) at (s₂ .1))
+
+  digit-or-blank : (f : List ℕ) → run digit 1 f || run blank 1 f ≡ true → run (orBlank digit) 1 f ≡ true
+  digit-or-blank f h =
+      either (run (orBlank digit) 1 f ≡ true) (run digit 1 f) (run blank 1 f) h (run-wider digit (orBlank digit) (λ b e. rw e) 1 f) (run-wider blank (orBlank digit) (λ b. or-true (digit b) (blank b)) 1 f)
+
+  class-held : classHolds l ≡ true → Held l (row 48 48 L10 (orBlank digit)) × Held l (row 49 49 L10 (orBlank digit))
+  unfolding classHolds
+  class-held h =
+      let s = and-split (run digit 1 (class l) || run blank 1 (class l)) (run digit 1 (axles l) || run blank 1 (axles l)) h in
+      (digit-or-blank (class l) (s .0), digit-or-blank (axles l) (s .1))
+
+  tariff-held : tariffHolds l ≡ true → Held l (row 46 47 L10 (oneOf (bytes "1234567")))
+  unfolding tariffHolds all oneOf
+  tariff-held = listed-run (oneOf (bytes "1234567")) 2 _ (tariff l) refl
+
+  emission-held : emissionHolds l ≡ true → Held l (row 80 85 L10 (oneOf (bytes "01234567EVuro ")))
+  unfolding emissionHolds all oneOf
+  emission-held = listed-run (oneOf (bytes "01234567EVuro ")) 6 _ (emission l) refl
+
+  engine-held : engineHolds l ≡ true → Held l (row 92 94 L10 digit)
+  unfolding engineHolds
+  engine-held = and-left (run digit 3 (engine l)) (leb (number (engine l)) 52 || eqb (number (engine l)) 255)
+
+  valid-held : validToHolds l ≡ true → Held l (row 101 114 L10 digit)
+  unfolding validToHolds
+  valid-held h =
+      either (run digit 14 (validTo l) ≡ true) (run zeroDigit 14 (validTo l)) (realTime (validTo l)) h (run-wider zeroDigit digit zero-digit 14 (validTo l))
+      (λ r. all-run digit 14 (validTo l) (real-length (validTo l) r) (real-all (validTo l) r))
+
+  separator-held : separatorHolds l ≡ true → Held l (row 115 116 L10 digit)
+  unfolding separatorHolds separator
+  separator-held =
+      let f : List ℕ = separatorOf l in
+      and-left (run digit 2 f) (separated (number (field 1 1 f)) (number (field 2 2 f)) (plateCharacters (plateOf l)))
+
+  product-held : productHolds l ≡ true → Held l (row 86 87 L10 (oneOf (bytes "01234569"))) × Held l (row 88 88 L10 (oneOf (bytes "YN"))) × Held l (row 89 91 L10 blank)
+  unfolding productHolds all oneOf
+  product-held h =
+      let s₂ = and-split (listed 2 (bytes "01020304050609101112131415202122") (fuel l) && listed 1 (bytes "YN") (chargeable l)) (run blank 3 (productRest l)) h in
+      let s₁ = and-split (listed 2 (bytes "01020304050609101112131415202122") (fuel l)) (listed 1 (bytes "YN") (chargeable l)) (s₂ .0) in
+      (listed-run (oneOf (bytes "01234569")) 2 _ (fuel l) refl (s₁ .0), listed-run (oneOf (bytes "YN")) 1 _ (chargeable l) refl (s₁ .1), s₂ .1)
+
+  pub rows-hold : Each (λ r. r .rule l ≡ true → Held l r) rows
+  unfolding rows L8 L9
+  rows-hold =
+      let part : L10 l ≡ true → Parts l = l10-parts l in
+      more (λ h. h)
+      (more (λ h. part h .shadow-blank)
+      (more pan-held
+      (more plate-held
+      (more (λ h. nationality-held h .0)
+      (more (λ h. nationality-held h .1)
+      (more (λ h. tariff-held (part h .tariff-holds))
+      (more (λ h. class-held (part h .class-holds) .0)
+      (more (λ h. class-held (part h .class-holds) .1)
+      (more (λ h. h)
+      (more (λ h. h)
+      (more (λ h. emission-held (part h .emission-holds))
+      (more (λ h. product-held (part h .product-holds) .0)
+      (more (λ h. product-held (part h .product-holds) .1)
+      (more (λ h. product-held (part h .product-holds) .2)
+      (more (λ h. engine-held (part h .engine-holds))
+      (more (λ h. part h .co2-digits)
+      (more (λ h. part h .weight-digits)
+      (more (λ h. valid-held (part h .valid-holds))
+      (more (λ h. separator-held (part h .separator-holds))
+      (more (λ h. part h .filler-zeros) none))))))))))))))))))))
+
+  -- the rules of a record are those of the rows
+  pub record-rules : recordHolds l ≡ true → Each (λ r. r .rule l ≡ true) rows
+  unfolding recordHolds rows joined
+  record-rules h = go (joined-each (sixDigits l) (L1 l ∷ L5 l ∷ L6 l ∷ L7 l ∷ L8 l ∷ L9 l ∷ L10 l ∷ []) h)
+    where
+      go : Each (λ b. b ≡ true) (sixDigits l ∷ L1 l ∷ L5 l ∷ L6 l ∷ L7 l ∷ L8 l ∷ L9 l ∷ L10 l ∷ []) → Each (λ r. r .rule l ≡ true) rows
+      go (more a (more l1 (more l5 (more l6 (more l7 (more l8 (more l9 (more l10 none)))))))) =
+          more a (more l10 (more l1 (more l6 (more l7 (more l7 (more l10 (more l10 (more l10 (more l8 (more l9
+          (more l10 (more l10 (more l10 (more l10 (more l10 (more l10 (more l10 (more l10 (more l10 (more l10 none))))))))))))))))))))
+
+  -- T17
+  pub record-covered : recordHolds l ≡ true → Each (Held l) rows
+  record-covered h = each-map (λ r x. x .1 (x .0)) (each-both (record-rules h) rows-hold)
+
+  -- ---- position by position
+
+  held-at : (r : Row) (p : ℕ) → Held l r → 1 ≤ r .from → r .from ≤ p → p ≤ r .to → r .admits (getD l (p - 1) 0) ≡ true
+  unfolding field
+  held-at r p h o a b =
+      let n : ℕ = r .to + 1 - r .from in
+      let i : ℕ = p - r .from in
+      let d : List ℕ = drop (r .from - 1) l in
+      let k : r .from - 1 + i ≡ p - 1 = omega arith in
+      let e : getD (take n d) i 0 ≡ getD l (p - 1) 0 = getD-take n d i 0 (omega arith) ∙ getD-drop (r .from - 1) l i 0 ∙ rw k in
+      rw e at (all-at (r .admits) (take n d) i (run-all (r .admits) n (take n d) h) (omega (arith, run-length (r .admits) n (take n d) h)))
+
+  covered-at : (rs : List Row) (a b p : ℕ) → 1 ≤ a → cover a b rs ≡ true → Each (Held l) rs → a ≤ p → p ≤ b → admitted rs p (getD l (p - 1) 0) ≡ true
+  unfolding cover admitted
+  covered-at [] a b p o c hs x y = absurd (omega (arith, eqb-true a (b + 1) c))
+  covered-at (r ∷ rs) a b p o c (more h hs) x y =
+      let s₂ = and-split (eqb a (r .from) && leb a (r .to)) (cover (r .to + 1) b rs) c in
+      let s₁ = and-split (eqb a (r .from)) (leb a (r .to)) (s₂ .0) in
+      let e₁ : a ≡ r .from = eqb-true a (r .from) (s₁ .0) in
+      let e₂ : a ≤ r .to = leb-true a (r .to) (s₁ .1) in
+      go (leb p (r .to)) (getD l (p - 1) 0) refl (omega arith) (held-at r p h (omega arith) (omega arith))
+      (λ k. covered-at rs (r .to + 1) b p (omega arith) (s₂ .1) hs k y)
+    where
+      go : (t : Bool) (v : ℕ) → leb p (r .to) ≡ t → r .from ≤ p → (p ≤ r .to → r .admits v ≡ true) → (r .to + 1 ≤ p → admitted rs p v ≡ true)
+          → between (r .from) (r .to) p && r .admits v || admitted rs p v ≡ true
+      go true v e j now later = rw (le-leb (r .from) p j, e, now (leb-true p (r .to) e))
+      go false v e j now later = or-true (between (r .from) (r .to) p && r .admits v) (admitted rs p v) (later (omega (arith, leb-false p (r .to) e)))
+
+  pub record-at : recordHolds l ≡ true → (p : ℕ) → 2 ≤ p → p ≤ 127 → admitted rows p (getD l (p - 1) 0) ≡ true
+  record-at h p a b = covered-at rows 2 127 p (omega arith) rows-cover (record-covered h) a b
+
+  -- ---- positions that all hold bytes of one kind
+
+  rows-run : (q : ℕ → Bool) (rs : List Row) (a b : ℕ) → 1 ≤ a → cover a b rs ≡ true → Each (λ r. Held l r × ((x : ℕ) → r .admits x ≡ true → q x ≡ true)) rs
+      → (a ≤ b + 1) × (run q (b + 1 - a) (field a b l) ≡ true)
+  unfolding cover run all
+  rows-run q [] a b o c none =
+      let w : b + 1 - a ≡ 0 = omega (arith, eqb-true a (b + 1) c) in
+      (omega (arith, eqb-true a (b + 1) c), rw w (nothing (field a b l) (omega (arith, field-most a b l))))
+    where
+      nothing : (f : List ℕ) → length f ≤ 0 → run q 0 f ≡ true
+      nothing [] h = refl
+      nothing (x ∷ f) h = absurd (omega arith)
+  rows-run q (r ∷ rs) a b o c (more (h, g) hs) =
+      let s₂ = and-split (eqb a (r .from) && leb a (r .to)) (cover (r .to + 1) b rs) c in
+      let s₁ = and-split (eqb a (r .from)) (leb a (r .to)) (s₂ .0) in
+      let e : a ≡ r .from = eqb-true a (r .from) (s₁ .0) in
+      let n : a ≤ r .to = leb-true a (r .to) (s₁ .1) in
+      let rest = rows-run q rs (r .to + 1) b (omega arith) (s₂ .1) hs in
+      let m : r .to ≤ b = omega (arith, rest .0) in
+      let w : b + 1 - a ≡ (r .to + 1 - a) + (b + 1 - (r .to + 1)) = omega arith in
+      let here : run q (r .to + 1 - a) (field a (r .to) l) ≡ true = rw e (run-wider (r .admits) q g (r .to + 1 - r .from) (field (r .from) (r .to) l) h) in
+      (omega arith, rw (w, field-split a b (r .to) l o n m) (run-append q (r .to + 1 - a) (b + 1 - (r .to + 1)) (field a (r .to) l) (field (r .to + 1) b l) here (rest .1)))
+
+  -- blanks are refused in 92-116: there zeros mean missing
+  pub missing-zeros : L10 l ≡ true → run digit 25 (field 92 116 l) ≡ true
+  unfolding cover
+  missing-zeros h =
+      let m : Parts l = l10-parts l h in
+      let digits : (x : ℕ) → digit x ≡ true → digit x ≡ true = λ x e. e in
+      rows-run digit (row 92 94 L10 digit ∷ row 95 96 L10 digit ∷ row 97 100 L10 digit ∷ row 101 114 L10 digit ∷ row 115 116 L10 digit ∷ []) 92 116 (omega arith) refl
+      (more (engine-held (m .engine-holds), digits)
+      (more (m .co2-digits, digits)
+      (more (m .weight-digits, digits)
+      (more (valid-held (m .valid-holds), digits)
+      (more (separator-held (m .separator-holds), digits) none))))) .1
+
+-- no row admits a control character
+unfoldable pub clear : List Row → Bool
+clear [] = true
+clear (r ∷ rs) = all (λ b. not (r .admits b)) (tableOf (λ b. b) 32) && clear rs
+
+rows-clear : clear rows ≡ true
+unfolding clear rows all tableOf tableFrom oneOf allowed
+rows-clear = refl
+
+rows-plain : (rs : List Row) → clear rs ≡ true → Each (λ r. (b : ℕ) → r .admits b ≡ true → plain b ≡ true) rs
+unfolding clear
+rows-plain [] c = none
+rows-plain (r ∷ rs) c = more (λ b. go b (plain b) refl) (rows-plain rs (and-right (all refused codes) (clear rs) c))
+  where
+    refused : ℕ → Bool
+    refused b = not (r .admits b)
+
+    codes : List ℕ
+    codes = tableOf (λ b. b) 32
+
+    go : (b : ℕ) (t : Bool) → plain b ≡ t → r .admits b ≡ true → t ≡ true
+    go b true e h = refl
+    go b false e h =
+        let l : b < 32 = leb-false 32 b e in
+        let k : not (r .admits b) ≡ true =
+        rw (entry (λ x. x) 32 b l) at (all-at refused codes b (and-left (all refused codes) (clear rs) c) (rw (length-table (λ x. x) 32) l)) in
+        absurd (true≢false (sym h ∙ not-true (r .admits b) k))
+
+-- so no byte of a record is one
+pub record-plain : (l : List ℕ) → recordHolds l ≡ true → run plain 126 (text l) ≡ true
+record-plain l h = rows-run l plain rows 2 127 (omega arith) rows-cover (each-both (record-covered l h) (rows-plain rows rows-clear)) .1

@@ -1,0 +1,58 @@
+-- A number written in enough digits and read again is the number. Assumes nothing.
+use mathlib.Core.Path.{_≡_, refl, sym, ap, _∙_}
+use mathlib.Core.Bool.{true}
+use mathlib.Core.List.{List, [], _∷_, _++_}
+use Prim.Native.Nat.{ℕ, zero, suc, _+_, _*_, _-_, _/_, _%_, _^_, _≤_, _<_}
+use native.Mathlib.Nat.{pow-suc}
+use native.Mathlib.Omega.{arith}
+use lib.Dec.{leb}
+use lib.ListN.{length, length-append}
+use borrow.Author.Tests.{le-leb}
+use Rattle.theory.specs.laws.Truth.{and-both}
+use Rattle.theory.specs.Every.{all, run}
+use Rattle.theory.specs.laws.Every.{all-run, all-append}
+use Rattle.fields.specs.Field.{digit}
+use Rattle.numbers.specs.Number.{number, numberAfter, decimal}
+
+-- so many digits
+pub length-decimal : (k v : ℕ) → length (decimal k v) ≡ k
+unfolding decimal
+length-decimal zero v = refl
+length-decimal (suc k) v = simp length-append (omega (arith, length-decimal k (v / 10)))
+
+digit-is : (v : ℕ) → digit (48 + v % 10) ≡ true
+digit-is v = and-both (leb 48 (48 + v % 10)) (leb (48 + v % 10) 57) (le-leb 48 (48 + v % 10) (omega arith)) (le-leb (48 + v % 10) 57 (omega arith))
+
+-- and each is one
+pub decimal-all : (k v : ℕ) → all digit (decimal k v) ≡ true
+unfolding decimal all
+decimal-all zero v = refl
+decimal-all (suc k) v = all-append digit (decimal k (v / 10)) ((48 + v % 10) ∷ []) ∙ rw (decimal-all k (v / 10), digit-is v)
+
+pub decimal-digits : (k v : ℕ) → run digit k (decimal k v) ≡ true
+decimal-digits k v = all-run digit k (decimal k v) (length-decimal k v) (decimal-all k v)
+
+-- a digit behind others
+number-behind : (n : ℕ) (s : List ℕ) (x : ℕ) → numberAfter n (s ++ x ∷ []) ≡ numberAfter n s * 10 + (x - 48)
+unfolding numberAfter
+number-behind n [] x = refl
+number-behind n (y ∷ s) x = number-behind (n * 10 + (y - 48)) s x
+
+-- written and read again
+pub number-decimal : (k v : ℕ) → v < 10 ^ k → number (decimal k v) ≡ v
+unfolding number decimal numberAfter
+number-decimal zero v h = omega arith
+number-decimal (suc k) v h =
+    let p : 10 ^ suc k ≡ 10 ^ k * 10 = pow-suc 10 k in
+    number-behind 0 (decimal k (v / 10)) (48 + v % 10) ∙ rw (number-decimal k (v / 10) (omega arith)) (omega arith)
+
+-- no two numbers that fit have the same digits
+pub decimal-one : (k v w : ℕ) → v < 10 ^ k → w < 10 ^ k → decimal k v ≡ decimal k w → v ≡ w
+decimal-one k v w h j e = sym (number-decimal k v h) ∙ ap number e ∙ number-decimal k w j
+
+-- the widths in use: a count, and the number of a sequence
+pub number-15 : (v : ℕ) → v ≤ 999999999999999 → number (decimal 15 v) ≡ v
+number-15 v h = number-decimal 15 v (omega arith)
+
+pub number-2 : (v : ℕ) → v ≤ 99 → number (decimal 2 v) ≡ v
+number-2 v h = number-decimal 2 v (omega arith)

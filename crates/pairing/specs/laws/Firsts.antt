@@ -1,0 +1,168 @@
+-- Verdicts of which each 0 stands at the first line of a text: the lines with another verdict, alone, say which have 0.
+-- Assumes nothing.
+use mathlib.Core.Path.{_≡_, refl, sym, ap, _∙_}
+use mathlib.Core.Bool.{Bool, true, false, not, _&&_, _||_, true≢false, false≢true}
+use mathlib.Core.List.{List, [], _∷_, _++_, map, append-assoc, append-nil}
+use Prim.Native.Nat.{ℕ, zero, suc, _<_}
+use native.Mathlib.Omega.{arith}
+use lib.Dec.{ltb}
+use lib.ListN.{length, take, getD}
+use borrow.Author.Tests.{lt-ltb, le-ltb, not-true}
+use Rattle.theory.specs.laws.Truth.{and-left, and-right, and-both, or-left, or-right, or-true, or-false}
+use Rattle.theory.specs.Same.{eqs, mem}
+use Rattle.theory.specs.laws.Same.{eqs-refl, eqs-true, mem-append}
+use Rattle.theory.specs.Count.{bump, count}
+use Rattle.theory.specs.laws.Count.{bump-and-eq, count-self}
+use Rattle.theory.specs.laws.Keep.{count-onto, count-onto-other}
+use Rattle.theory.specs.Pick.{good, bad, pick}
+use Rattle.theory.specs.laws.Pick.{bad-is}
+use Rattle.pairing.specs.Pairing.{isTaken, marksFrom, marks, left, told, firstsFrom, firsts}
+use Rattle.pairing.specs.laws.Pairing.{mark, pick-mark, told-is}
+
+-- ---- one line more in front
+
+pub mem-front : (t : List ℕ) (before : List (List ℕ)) (x : List ℕ) → mem t before ≡ true → mem t (before ++ x ∷ []) ≡ true
+mem-front t before x h = mem-append t before (x ∷ []) ∙ rw h
+
+pub mem-last : (t : List ℕ) (before : List (List ℕ)) → mem t (before ++ t ∷ []) ≡ true
+unfolding mem
+mem-last t before = mem-append t before (t ∷ []) ∙ or-true (mem t before) _ (rw (eqs-refl t))
+
+pub mem-rest : (t : List ℕ) (before : List (List ℕ)) (x : List ℕ) → mem t (before ++ x ∷ []) ≡ false → (mem t before ≡ false) × (eqs t x ≡ false)
+unfolding mem
+mem-rest t before x h =
+    let e : mem t before || (eqs t x || false) ≡ false = sym (mem-append t before (x ∷ [])) ∙ h in
+    (or-left (mem t before) _ e, or-left (eqs t x) false (or-right (mem t before) _ e))
+
+pub mem-some : (t : List ℕ) (before : List (List ℕ)) (x : List ℕ) → mem t (before ++ x ∷ []) ≡ true → eqs t x ≡ false → mem t before ≡ true
+unfolding mem
+mem-some t before x h e = sym (or-false (mem t before)) ∙ sym (mem-append t before (x ∷ []) ∙ rw e) ∙ h
+
+mem-take : (ts : List (List ℕ)) (i k : ℕ) → i < k → k < length ts → mem (getD ts i []) (take k ts) ≡ true
+unfolding mem
+mem-take [] i k a b = absurd (omega arith)
+mem-take (t ∷ ts) i zero a b = absurd (omega arith)
+mem-take (t ∷ ts) zero (suc k) a b = rw (eqs-refl t)
+mem-take (t ∷ ts) (suc i) (suc k) a b = or-true (eqs (getD ts i []) t) _ (mem-take ts i k (omega arith) (omega arith))
+
+-- ---- what the test says of a line, and of those behind it
+
+module _ (before : List (List ℕ)) (t : List ℕ) (ts : List (List ℕ)) (v : ℕ) (vs : List ℕ) (h : firstsFrom before (t ∷ ts) (v ∷ vs) ≡ true) where
+  pub firsts-head : mem t before ≡ true → good v ≡ false
+  unfolding firstsFrom
+  firsts-head m = go (good v) (mem t before) (and-left _ (firstsFrom (before ++ t ∷ []) ts vs) h) m
+    where
+      go : (a b : Bool) → not (a && b) ≡ true → b ≡ true → a ≡ false
+      go true true e m = absurd (false≢true e)
+      go true false e m = absurd (false≢true m)
+      go false b e m = refl
+
+  pub firsts-tail : firstsFrom (before ++ t ∷ []) ts vs ≡ true
+  unfolding firstsFrom
+  firsts-tail = and-right (not (good v && mem t before)) _ h
+
+-- a line with the verdict 0 is the first of its text
+pub firsts-zero : (before : List (List ℕ)) (t : List ℕ) (ts : List (List ℕ)) (vs : List ℕ) → firstsFrom before (t ∷ ts) (0 ∷ vs) ≡ true → mem t before ≡ false
+unfolding firstsFrom good
+firsts-zero before t ts vs h = not-true (mem t before) (and-left _ (firstsFrom (before ++ t ∷ []) ts vs) h)
+
+pub firsts-more : (before : List (List ℕ)) (t : List ℕ) (ts : List (List ℕ)) (v : ℕ) (vs : List ℕ)
+    → (mem t before ≡ true → good v ≡ false) → firstsFrom (before ++ t ∷ []) ts vs ≡ true → firstsFrom before (t ∷ ts) (v ∷ vs) ≡ true
+unfolding firstsFrom
+firsts-more before t ts v vs g h = and-both _ _ (go (good v) (mem t before) g) h
+  where
+    go : (a b : Bool) → (b ≡ true → a ≡ false) → not (a && b) ≡ true
+    go true true k = absurd (true≢false (k refl))
+    go true false k = refl
+    go false b k = refl
+
+-- ---- by their places
+
+module _ (ts : List (List ℕ)) (vs : List ℕ) (l : length vs ≡ length ts) (h : firsts ts vs ≡ true) where
+  -- a text that stands in front has another verdict than 0
+  pub firsts-at : (k : ℕ) → k < length ts → mem (getD ts k []) (take k ts) ≡ true → good (getD vs k 0) ≡ false
+  unfolding firsts
+  firsts-at k b m = go [] ts vs l h k b m
+    where
+      go : (before us : List (List ℕ)) (ws : List ℕ) → length ws ≡ length us → firstsFrom before us ws ≡ true → (k : ℕ) → k < length us
+          → mem (getD us k []) (before ++ take k us) ≡ true → good (getD ws k 0) ≡ false
+      go before [] ws q g k b m = absurd (omega arith)
+      go before (u ∷ us) [] q g k b m = absurd (omega arith)
+      go before (u ∷ us) (w ∷ ws) q g zero b m = firsts-head before u us w ws g (rw (append-nil before) at m)
+      go before (u ∷ us) (w ∷ ws) q g (suc k) b m =
+          go (before ++ u ∷ []) us ws (omega arith) (firsts-tail before u us w ws g) k (omega arith) (rw (append-assoc before (u ∷ []) (take k us)) m)
+
+  -- so has the later of two equal texts
+  pub firsts-later : (i k : ℕ) → i < k → k < length ts → getD ts i [] ≡ getD ts k [] → good (getD vs k 0) ≡ false
+  firsts-later i k a b e = firsts-at k b (rw (← e) (mem-take ts i k a b))
+
+-- ---- the marks read off
+
+not-good : (v : ℕ) → good v ≡ false → bad v ≡ true
+not-good v h = bad-is v ∙ rw h
+
+-- of a text that stands in front, every copy has another verdict than 0
+settled : (t : List ℕ) (before ts : List (List ℕ)) (vs : List ℕ) → length vs ≡ length ts → firstsFrom before ts vs ≡ true → mem t before ≡ true
+    → count t (pick bad vs ts) ≡ count t ts
+unfolding pick count
+settled t before [] [] l h m = refl
+settled t before [] (v ∷ vs) l h m = absurd (omega arith)
+settled t before (x ∷ ts) [] l h m = absurd (omega arith)
+settled t before (x ∷ ts) (v ∷ vs) l h m =
+    rw (count-onto t (bad v) x (pick bad vs ts))
+    (bump-and-eq (bad v) (eqs t x) _ _ (settled t (before ++ x ∷ []) ts vs (omega arith) (firsts-tail before x ts v vs h) (mem-front t before x m))
+    (λ e. not-good v (firsts-head before x ts v vs h (rw (eqs-true t x e) at m))))
+
+-- all copies of a text but the first have another verdict
+more-often : (v n : ℕ) → ltb (bump (bad v && true) n) (suc n) ≡ good v
+unfolding good bad bump
+more-often zero n = lt-ltb n (suc n) (omega arith)
+more-often (suc v) n = le-ltb (suc n) (suc n) (omega arith)
+
+module _ (all copies : List (List ℕ)) where
+  -- the copies of a text that does not stand in front are all behind
+  abbrev Behind : List (List ℕ) → List (List ℕ) → List ℕ → Type 0
+  Behind before ts vs = (t : List ℕ) → mem t before ≡ false → (count t all ≡ count t ts) × (count t copies ≡ count t (pick bad vs ts))
+
+  module _ (before : List (List ℕ)) (t : List ℕ) (ts : List (List ℕ)) (v : ℕ) (vs : List ℕ) (k : Behind before (t ∷ ts) (v ∷ vs)) where
+    taken-is : length vs ≡ length ts → firstsFrom before (t ∷ ts) (v ∷ vs) ≡ true → isTaken all copies before t ≡ good v
+    unfolding isTaken pick
+    taken-is l h = go (mem t before) refl
+      where
+        go : (b : Bool) → mem t before ≡ b → not b && ltb (count t copies) (count t all) ≡ good v
+        go true e = sym (firsts-head before t ts v vs h e)
+        go false e =
+            let s = settled t (before ++ t ∷ []) ts vs l (firsts-tail before t ts v vs h) (mem-last t before) in
+            rw (k t e .0, k t e .1, count-onto t (bad v) t (pick bad vs ts), count-self t ts, eqs-refl t, s)
+            (more-often v (count t ts))
+
+    behind-next : Behind (before ++ t ∷ []) ts vs
+    unfolding pick count bump
+    behind-next u m =
+        let (q, e) = mem-rest u before t m in
+        (k u q .0 ∙ rw e, k u q .1 ∙ count-onto-other u (bad v) t _ e)
+
+  marks-from : (before ts : List (List ℕ)) (vs : List ℕ) → length vs ≡ length ts → firstsFrom before ts vs ≡ true → Behind before ts vs
+      → marksFrom all copies before ts ≡ map mark vs
+  unfolding marksFrom mark
+  marks-from before [] [] l h k = refl
+  marks-from before [] (v ∷ vs) l h k = absurd (omega arith)
+  marks-from before (t ∷ ts) [] l h k = absurd (omega arith)
+  marks-from before (t ∷ ts) (v ∷ vs) l h k =
+      rw (taken-is before t ts v vs k (omega arith) h, ← bad-is v)
+      (ap (λ (us : List ℕ). bump (bad v) 0 ∷ us) (marks-from (before ++ t ∷ []) ts vs (omega arith) (firsts-tail before t ts v vs h) (behind-next before t ts v vs k)))
+
+module _ (ts : List (List ℕ)) (vs : List ℕ) (l : length vs ≡ length ts) (h : firsts ts vs ≡ true) where
+  -- what is read off is what the verdicts said
+  pub marks-is : marks ts (pick bad vs ts) ≡ map mark vs
+  unfolding marks firsts
+  marks-is = marks-from ts (pick bad vs ts) [] ts vs l h (λ t e. (refl, refl))
+
+  -- the lines with another verdict than 0 are the lines left
+  pub left-is : left ts (pick bad vs ts) ≡ pick bad vs ts
+  unfolding left
+  left-is = rw marks-is (pick-mark vs ts)
+
+  -- with the reasons, the verdicts again
+  pub told-marks : told (marks ts (pick bad vs ts)) (pick bad vs vs) ≡ vs
+  told-marks = rw marks-is (told-is vs)

@@ -1,0 +1,19 @@
+-- Two outcomes of one call are one, for each public function of this crate. Assumes nothing.
+use mathlib.Core.Path.{_≡_}
+use mathlib.Core.Bool.{Bool}
+use mathlib.Core.List.{List}
+use Prim.Native.Nat.{ℕ}
+use Rattle.theory.specs.laws.Outcome.{one-outcome}
+use Rattle.receipts.specs.Promises.{AnswersIn, Answers, Reception, Says}
+
+pub answers-in-one : (g : List ℕ) (r s : ℕ) → AnswersIn g r → AnswersIn g s → r ≡ s
+answers-in-one g r s = one-outcome
+
+pub answers-one : (g r s : List ℕ) → Answers g r → Answers g s → r ≡ s
+answers-one g r s = one-outcome
+
+pub reception-one : (g r s : List ℕ) → Reception g r → Reception g s → r ≡ s
+reception-one g r s = one-outcome
+
+pub says-one : (h g : List ℕ) (r s : Bool) → Says h g r → Says h g s → r ≡ s
+says-one h g r s = one-outcome

@@ -1,0 +1,224 @@
+-- The HGC that an import writes, as a provider reads it: its lines are the answers, its form is right, and its names are the
+-- HGV's. Of its clauses those are here that hold whatever the verdicts are. Assumes nothing.
+use mathlib.Core.Path.{_≡_, refl, sym, ap, _∙_}
+use mathlib.Core.Bool.{true}
+use mathlib.Core.List.{List, [], _∷_, _++_, append-assoc}
+use Prim.Native.Nat.{ℕ, _*_, _-_, _%_, _≤_}
+use native.Mathlib.Omega.{arith}
+use lib.ListN.{length, length-append}
+use lib.Seq.{take-at, drop-at}
+use borrow.Author.Tests.{eq-eqb, le-leb}
+use Rattle.theory.specs.laws.Truth.{and-both}
+use Rattle.theory.specs.Same.{eqs}
+use Rattle.theory.specs.laws.Same.{eqs-refl}
+use Rattle.theory.specs.Every.{all, run}
+use Rattle.theory.specs.Each.{Each, none, more}
+use Rattle.theory.specs.laws.Each.{each-from}
+use Rattle.theory.specs.laws.Keep.{each-onto}
+use Rattle.theory.specs.Join.{flat}
+use Rattle.theory.specs.laws.Join.{chop-take, chop-flat}
+use Rattle.theory.specs.Walk.{each}
+use Rattle.theory.specs.laws.Walk.{passes-each}
+use Rattle.theory.specs.Pick.{good, bad, pick}
+use Rattle.theory.specs.Tally.{tally}
+use Rattle.texts.specs.Field.{field}
+use Rattle.texts.specs.laws.Field.{field-before}
+use Rattle.numbers.specs.Number.{decimal}
+use Rattle.numbers.specs.laws.Number.{decimal-digits}
+use Rattle.lines.specs.Rules.{recordHolds}
+use Rattle.register.specs.Search.{ofActor}
+use Rattle.hgv.specs.Layout.{lineLength, footerLength, linesIn, lengthHolds, linesOf, footer}
+use Rattle.frames.specs.Frames.{footerHolds}
+use Rattle.hgv.specs.laws.Layout.{length-lines, each-line, length-least}
+use Rattle.header.specs.Header.{sender, listSequence}
+use Rattle.hgc.specs.Confirmation.{headLength, answerLength, confirmationLength, zeros, outcome, head, answer, answers, foot, confirmation}
+use Rattle.hgc.specs.laws.Confirmation.{length-head, length-foot, each-answer, count-answers, length-answers, length-confirmation}
+use Rattle.hgc.specs.laws.Fields.{
+  head-type,
+  head-sender,
+  head-receiver,
+  head-sequence,
+  head-reception,
+  head-taken,
+  head-rejected,
+  head-version,
+  head-filler,
+  head-outcome,
+  head-end,
+  answer-type,
+  answer-end,
+  texts-answers,
+  foot-form,
+}
+use Rattle.receipts.specs.Receipt.{
+  bareLength,
+  answersIn,
+  behindHead,
+  answersOf,
+  receptionOf,
+  takenOf,
+  rejectedOf,
+  lengthForm,
+  headForm,
+  answerForm,
+  formHolds,
+  namesHold,
+  outcomeHolds,
+  textsOf,
+  copiesOf,
+  sameTexts,
+  lineHolds,
+}
+
+-- a list of texts is the same as itself
+pub same-texts : (xs : List (List ℕ)) → sameTexts xs xs ≡ true
+unfolding sameTexts
+same-texts [] = refl
+same-texts (x ∷ xs) = rw (eqs-refl x) (same-texts xs)
+
+-- of a taken line no more is asked than this: its actor is the sender, and it keeps L1, L5 to L10
+pub line-holds : (h l : List ℕ) → ofActor (sender h) l ≡ true → recordHolds l ≡ true → lineHolds h l ≡ true
+unfolding lineHolds
+line-holds h l = and-both (ofActor (sender h) l) (recordHolds l)
+
+-- what every answer has whose verdict has p, each of a file's answers has
+pub each-answered : {p : ℕ → Type 0} {q : List ℕ → Type 0} → ((v : ℕ) (l : List ℕ) → p v → 127 ≤ length l → q (answer v l))
+    → {vs : List ℕ} {ls : List (List ℕ)} → Each (λ v. bad v ≡ true → p v) vs → Each (λ l. length l ≡ lineLength) ls → Each q (answers vs ls)
+unfolding answers
+each-answered g none h = none
+each-answered g (more k ks) none = none
+each-answered g (more k ks) (more h hs) = each-onto _ _ _ (λ e. g _ _ (k e) (omega arith)) (each-answered g ks hs)
+
+-- an answer's two ends
+answer-form : (v : ℕ) (l : List ℕ) → v ≡ v → 127 ≤ length l → answerForm (answer v l) ≡ true
+unfolding answerForm eqs
+answer-form v l e h = rw (answer-type v l h, answer-end v l h)
+
+module _ (reception h vs : List ℕ) (dated : length reception ≡ 14) (sized : lengthHolds h ≡ true) (counted : length vs ≡ linesIn h) where
+  abbrev g : List ℕ
+  g = confirmation reception h vs
+
+  abbrev top : List ℕ
+  top = head reception h (tally good vs) (tally bad vs)
+
+  abbrev rows : List (List ℕ)
+  rows = answers vs (linesOf h)
+
+  long : 128 ≤ length h
+  long = omega (arith, length-least h sized)
+
+  size : length g ≡ confirmationLength (tally bad vs)
+  size = length-confirmation reception h vs dated sized counted
+
+  size-top : length top ≡ headLength
+  size-top = length-head reception h (tally good vs) (tally bad vs) dated long
+
+  rows-counted : length rows ≡ tally bad vs
+  rows-counted = count-answers vs (linesOf h) (omega (arith, length-lines h))
+
+  size-rows : length (flat rows) ≡ tally bad vs * answerLength
+  size-rows = length-answers vs (each-line h) ∙ ap (λ (k : ℕ). k * answerLength) rows-counted
+
+  -- ---- its parts
+
+  -- as many lines as bad verdicts
+  pub answers-in : answersIn g ≡ tally bad vs
+  unfolding answersIn
+  answers-in = omega (arith, size)
+
+  -- behind the header its lines, and then the footer
+  behind-top : behindHead g ≡ flat rows ++ foot
+  unfolding behindHead confirmation
+  behind-top = rw (append-assoc top (flat rows) foot) (drop-at top (flat rows ++ foot) headLength size-top)
+
+  -- and they are the answers
+  pub answers-of : answersOf g ≡ rows
+  unfolding answersOf
+  answers-of =
+      rw (answers-in, behind-top)
+      (sym (chop-take answerLength (tally bad vs) (flat rows ++ foot) (simp length-append (omega (arith, size-rows))))
+      ∙ rw (take-at (flat rows) foot (tally bad vs * answerLength) size-rows, ← rows-counted) (chop-flat answerLength (each-answer vs (each-line h))))
+
+  -- its last 64 bytes are the footer
+  pub foot-of : footer g ≡ foot
+  unfolding footer confirmation
+  foot-of =
+      drop-at (top ++ flat rows) foot (length g - footerLength) (simp length-append (omega (arith, size-top, length-foot)))
+
+  -- a field of its header
+  pub field-of : (a b : ℕ) → 1 ≤ a → a ≤ b → b ≤ headLength → field a b g ≡ field a b top
+  unfolding confirmation
+  field-of a b o k l =
+      field-before a b (top ++ flat rows) foot o k (simp length-append (omega (arith, size-top)))
+      ∙ field-before a b top (flat rows) o k (omega (arith, size-top))
+
+  -- ---- its form
+
+  -- 110 + 130 r + 64
+  pub length-form : lengthForm g ≡ true
+  unfolding lengthForm
+  length-form = rw (le-leb bareLength (length g) (omega (arith, size)), eq-eqb ((length g - bareLength) % answerLength) 0 (omega (arith, size)))
+
+  -- the counts in it
+  pub taken-of : takenOf g ≡ decimal 15 (tally good vs)
+  taken-of = field-of 47 61 (omega arith) (omega arith) (omega arith) ∙ head-taken reception h (tally good vs) (tally bad vs) dated long
+
+  pub rejected-of : rejectedOf g ≡ decimal 15 (tally bad vs)
+  rejected-of = field-of 62 76 (omega arith) (omega arith) (omega arith) ∙ head-rejected reception h (tally good vs) (tally bad vs) dated long
+
+  -- the header's fixed fields, and digits in the counts
+  pub head-form : headForm g ≡ true
+  unfolding headForm eqs run all zeros
+  head-form =
+      rw (
+        field-of 1 1 (omega arith) (omega arith) (omega arith) ∙ head-type reception h (tally good vs) (tally bad vs) dated long,
+        field-of 2 7 (omega arith) (omega arith) (omega arith) ∙ head-sender reception h (tally good vs) (tally bad vs) dated long,
+        taken-of,
+        rejected-of,
+        decimal-digits 15 (tally good vs),
+        decimal-digits 15 (tally bad vs),
+        field-of 77 82 (omega arith) (omega arith) (omega arith) ∙ head-version reception h (tally good vs) (tally bad vs) dated long,
+        field-of 83 107 (omega arith) (omega arith) (omega arith) ∙ head-filler reception h (tally good vs) (tally bad vs) dated long,
+        field-of 110 110 (omega arith) (omega arith) (omega arith) ∙ head-end reception h (tally good vs) (tally bad vs) dated long,
+      )
+
+  -- each line has its two ends
+  pub answer-forms : each answerForm (answersOf g) ≡ true
+  answer-forms = rw answers-of (passes-each answerForm (each-answered answer-form (each-from vs 0 (λ i l b. refl)) (each-line h)))
+
+  -- so the form is right
+  pub form-holds : formHolds g ≡ true
+  unfolding formHolds footerHolds
+  form-holds = rw (length-form, head-form, answer-forms, foot-of, foot-form)
+
+  -- ---- its names, its outcome, its reception and its copies
+
+  -- the receiver is the HGV's sender, the list its list
+  pub names-hold : namesHold h g ≡ true
+  unfolding namesHold
+  names-hold =
+      rw (
+        field-of 8 13 (omega arith) (omega arith) (omega arith) ∙ head-receiver reception h (tally good vs) (tally bad vs) dated long,
+        field-of 14 32 (omega arith) (omega arith) (omega arith) ∙ head-sequence reception h (tally good vs) (tally bad vs) dated long,
+        eqs-refl (sender h),
+        eqs-refl (listSequence h),
+      )
+
+  -- `00` or `01` fits
+  pub outcome-holds : outcomeHolds g ≡ true
+  unfolding outcomeHolds
+  outcome-holds =
+      rw (
+        field-of 108 109 (omega arith) (omega arith) (omega arith) ∙ head-outcome reception h (tally good vs) (tally bad vs) dated long,
+        answers-in,
+        eqs-refl (outcome (tally bad vs)),
+      )
+
+  -- the time at which the HGV was received
+  pub reception-is : receptionOf g ≡ reception
+  reception-is = field-of 33 46 (omega arith) (omega arith) (omega arith) ∙ head-reception reception h (tally good vs) (tally bad vs) dated long
+
+  -- the texts of the rejected lines, in file order
+  pub copies-of : copiesOf g ≡ pick bad vs (textsOf h)
+  unfolding copiesOf textsOf
+  copies-of = rw answers-of (texts-answers vs (each-line h))

@@ -1,0 +1,4 @@
+pub mod Written
+pub mod Slot
+pub mod Holds
+pub mod Outcomes

@@ -1,0 +1,17 @@
+-- Two outcomes of one call are one, for each public function of this crate. Assumes nothing.
+use mathlib.Core.Path.{_≡_}
+use mathlib.Core.Bool.{Bool}
+use mathlib.Core.List.{List}
+use Prim.Native.Nat.{ℕ}
+use Rattle.theory.specs.laws.Outcome.{one-outcome}
+use Rattle.stops.specs.Promises.{IsMode, IsNotFull, FormStop}
+
+pub is-mode-one : (mode : ℕ) (r s : Bool) → IsMode mode r → IsMode mode s → r ≡ s
+is-mode-one mode r s = one-outcome
+
+pub is-not-full-one : (mode : ℕ) (h : List ℕ) (r s : Bool) → IsNotFull mode h r → IsNotFull mode h s → r ≡ s
+is-not-full-one mode h r s = one-outcome
+
+pub form-stop-one : (mode : ℕ) (reception register rows h : List ℕ) (r s : ℕ)
+    → FormStop mode reception register rows h r → FormStop mode reception register rows h s → r ≡ s
+form-stop-one mode reception register rows h r s = one-outcome

@@ -1,0 +1,108 @@
+-- Some of the parts that were taken pass a test: a walk over the parts and their verdicts. Assumes nothing.
+use mathlib.Core.Path.{_≡_, refl, sym, _∙_}
+use mathlib.Core.Bool.{Bool, true, false, _&&_, _||_}
+use mathlib.Core.List.{List, [], _∷_}
+use Prim.Native.Nat.{ℕ, zero, suc, _+_, _≤_, _<_}
+use native.Mathlib.Numerals.{add-one}
+use native.Mathlib.Omega.{arith}
+use lib.Dec.{eqb}
+use lib.ListN.{length, drop, getD}
+use lib.Seq.{drop-cons}
+use borrow.Author.Tests.{ne-eqb}
+use Rattle.theory.specs.Walk.{some}
+use Rattle.theory.specs.Count.{bump}
+use Rattle.theory.specs.laws.Count.{bump-add}
+use Rattle.theory.specs.Keep.{onto, sift}
+use Rattle.theory.specs.laws.Keep.{length-onto}
+use Rattle.theory.specs.Pick.{good, pick}
+use Rattle.theory.specs.Parts.{chop, partAt}
+use Rattle.theory.specs.laws.Parts.{partsFrom, parts-start, parts-step, parts-end}
+
+pub some-onto : (q : List ℕ → Bool) (b : Bool) (x : List ℕ) (xs : List (List ℕ)) → some q (onto b x xs) ≡ (b && q x) || some q xs
+unfolding some onto
+some-onto q true x xs = refl
+some-onto q false x xs = refl
+
+pub good-is : (v : ℕ) → good v ≡ eqb v 0
+unfolding good
+good-is zero = refl
+good-is (suc v) = sym (ne-eqb (suc v) 0 (λ e. omega arith))
+
+-- the parts taken from the place i on, as a walk over the parts and their verdicts has them
+unfoldable pub takenFrom : ℕ → ℕ → List ℕ → List ℕ → ℕ → List (List ℕ)
+takenFrom w n vs b i = pick good (drop i vs) (partsFrom w n i b)
+
+module _ (w n : ℕ) (vs b : List ℕ) where
+  pub taken-start : pick good vs (chop w n b) ≡ takenFrom w n vs b 0
+  unfolding takenFrom
+  taken-start = rw (parts-start w n b)
+
+  pub taken-step : (i : ℕ) → i < n → i < length vs → takenFrom w n vs b i ≡ onto (good (getD vs i 0)) (partAt w i b) (takenFrom w n vs b (i + 1))
+  unfolding takenFrom pick
+  taken-step i h l = rw (parts-step w n b i h, add-one i, drop-cons vs i 0 l)
+
+  pub taken-end : (i : ℕ) → n ≤ i → takenFrom w n vs b i ≡ []
+  unfolding takenFrom pick
+  taken-end i h = rw (parts-end w n b i h) (nothing (drop i vs))
+    where
+      nothing : (us : List ℕ) → pick {A = List ℕ} good us [] ≡ []
+      nothing [] = refl
+      nothing (u ∷ us) = refl
+
+-- ---- does one of them pass
+
+-- those from the place i on decide
+unfoldable pub Among : (List ℕ → Bool) → ℕ → ℕ → List ℕ → List ℕ → ℕ → Type 0
+Among q w n vs b i = some q (pick good vs (chop w n b)) ≡ some q (takenFrom w n vs b i)
+
+-- ---- how many of them pass
+
+-- k of those before the place i do
+unfoldable pub CountAmong : (List ℕ → Bool) → ℕ → ℕ → List ℕ → List ℕ → ℕ → ℕ → Type 0
+CountAmong q w n vs b i k = length (sift q (pick good vs (chop w n b))) ≡ k + length (sift q (takenFrom w n vs b i))
+
+module _ (q : List ℕ → Bool) (w n : ℕ) (vs b : List ℕ) where
+  pub among-start : Among q w n vs b 0
+  unfolding Among
+  among-start = rw (taken-start w n vs b)
+
+  pub count-among-start : CountAmong q w n vs b 0 0
+  unfolding CountAmong
+  count-among-start = rw (taken-start w n vs b) (omega arith)
+
+  module _ (i : ℕ) (a : Among q w n vs b i) where
+    pub among-end : n ≤ i → some q (pick good vs (chop w n b)) ≡ false
+    unfolding Among some
+    among-end h = a ∙ rw (taken-end w n vs b i h)
+
+    -- x is the part, r what the test said of it
+    module _ (h : i < n) (l : i < length vs) (x : List ℕ) (p : x ≡ partAt w i b) (r : Bool) (e : r ≡ q x) where
+      step : some q (pick good vs (chop w n b)) ≡ (eqb (getD vs i 0) 0 && r) || some q (takenFrom w n vs b (i + 1))
+      unfolding Among
+      step = a ∙ rw (taken-step w n vs b i h l, some-onto q (good (getD vs i 0)) (partAt w i b) (takenFrom w n vs b (i + 1)), good-is (getD vs i 0), ← p, ← e)
+
+      pub among-on : eqb (getD vs i 0) 0 && r ≡ false → Among q w n vs b (i + 1)
+      unfolding Among
+      among-on t = step ∙ rw t
+
+      pub among-off : eqb (getD vs i 0) 0 && r ≡ true → some q (pick good vs (chop w n b)) ≡ true
+      among-off t = step ∙ rw t
+
+  module _ (i k : ℕ) (a : CountAmong q w n vs b i k) where
+    pub count-among-end : n ≤ i → k ≡ length (sift q (pick good vs (chop w n b)))
+    unfolding CountAmong sift
+    count-among-end h = let e : length (sift q (takenFrom w n vs b i)) ≡ 0 = rw (taken-end w n vs b i h) in omega arith
+
+    -- x is the part, and m counts it where it was taken and passed
+    pub count-among-turn : i < n → i < length vs → (x : List ℕ) → x ≡ partAt w i b → (m : ℕ) → m ≡ bump (good (getD vs i 0) && q x) 0 → CountAmong q w n vs b (i + 1) (k + m)
+    unfolding CountAmong sift onto bump
+    count-among-turn h l x p m f =
+        let g : Bool = good (getD vs i 0) in
+        let s : length (sift q (takenFrom w n vs b i)) ≡ bump (g && q x) (length (sift q (takenFrom w n vs b (i + 1)))) =
+        rw (taken-step w n vs b i h l, ← p) (length-sift-onto g x (takenFrom w n vs b (i + 1))) in
+        let t : bump (g && q x) 0 + length (sift q (takenFrom w n vs b (i + 1))) ≡ bump (g && q x) (length (sift q (takenFrom w n vs b (i + 1)))) = bump-add (g && q x) 0 _ ∙ omega arith in
+        omega arith
+      where
+        length-sift-onto : (c : Bool) (y : List ℕ) (ys : List (List ℕ)) → length (sift q (onto c y ys)) ≡ bump (c && q y) (length (sift q ys))
+        length-sift-onto true y ys = length-onto (q y) y (sift q ys)
+        length-sift-onto false y ys = refl

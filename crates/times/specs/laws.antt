@@ -1,0 +1,5 @@
+pub mod Moment
+pub mod Date
+pub mod Calendar
+pub mod Order
+pub mod Outcomes

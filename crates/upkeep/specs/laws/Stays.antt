@@ -1,0 +1,103 @@
+-- A register in order stays in order (T9's part): what is written into a slot is a used slot, and a record replaced by one
+-- with its PAN, a record with a new PAN added, and records closed up leave a register in order, with the records that
+-- follow. Assumes nothing.
+use mathlib.Core.Path.{_≡_, refl, ap, _∙_}
+use mathlib.Core.Bool.{true, false}
+use mathlib.Core.List.{List, [], _∷_, _++_, map, map-append}
+use Prim.Native.Nat.{ℕ, _*_, _≤_, _<_}
+use native.Mathlib.Omega.{arith}
+use lib.ListN.{length, take, drop, getD, set, length-append, length-set}
+use lib.Seq.{map-set-same}
+use Rattle.theory.specs.Text.{bytes}
+use Rattle.theory.specs.Same.{mem}
+use Rattle.theory.specs.laws.Same.{eqs-refl}
+use Rattle.theory.specs.Each.{Each, none, more}
+use Rattle.theory.specs.laws.Each.{each-append, each-set}
+use Rattle.theory.specs.Pick.{good, pick}
+use Rattle.theory.specs.laws.Pick.{all-pick, pick-length}
+use Rattle.theory.specs.Distinct.{distinct}
+use Rattle.theory.specs.laws.Distinct.{distinct-append, distinct-pick}
+use Rattle.theory.specs.Join.{flat}
+use Rattle.theory.specs.Put.{putPart}
+use Rattle.theory.specs.Pad.{pad}
+use Rattle.theory.specs.laws.Pad.{put-pad, push-pad}
+use Rattle.texts.specs.Field.{lineEnd}
+use Rattle.times.specs.Time.{realTime}
+use Rattle.times.specs.laws.Moment.{real-length}
+use Rattle.columns.specs.Columns.{panOf}
+use Rattle.lines.specs.Rules.{recordHolds}
+use Rattle.lines.specs.End.{recordOf}
+use Rattle.records.specs.laws.Written.{length-record, record-first, record-last}
+use Rattle.records.specs.laws.Holds.{record-long, record-holds}
+use Rattle.records.specs.Slot.{putRecord}
+use Rattle.records.specs.laws.Slot.{put-there}
+use Rattle.closing.specs.Closing.{closedUp}
+use Rattle.closing.specs.laws.Closing.{closed-front}
+use Rattle.register.specs.Register.{slotLength, slotsMost, slotsIn, marked, usedForm, records, usedIn, inOrder}
+use Rattle.register.specs.laws.Register.{Ordered, ordered, used-most, slots-pad, records-pad, order-pad}
+use Rattle.upkeep.specs.Holds.{Holds}
+
+-- ---- what is written
+
+module _ (reception l : List ℕ) (h : recordHolds l ≡ true) (r : realTime reception ≡ true) where
+  pub written-length : length (recordOf reception l) ≡ slotLength
+  written-length = length-record reception l (record-long l h) (real-length reception r)
+
+  pub written-used : usedForm (recordOf reception l) ≡ true
+  unfolding usedForm marked
+  written-used =
+      rw (
+        record-first reception l (record-long l h) (real-length reception r),
+        record-last reception l (record-long l h) (real-length reception r),
+        record-holds reception l h r,
+        eqs-refl (bytes "1"),
+        eqs-refl lineEnd,
+      )
+
+  -- and a writer of such a line writes it where there is a slot
+  pub written-put : (i : ℕ) (b : List ℕ) → i < slotsIn b → putRecord i reception l b ≡ putPart slotLength i (recordOf reception l) b
+  written-put = put-there reception l (record-long l h) (real-length reception r)
+
+-- ---- the register after
+
+holds : (n : ℕ) {R : List (List ℕ)} → Each (λ r. length r ≡ slotLength) R → Each (λ r. usedForm r ≡ true) R → distinct (map panOf R) ≡ true → length R ≤ n → n ≤ slotsMost
+    → (b : List ℕ) → b ≡ flat (pad slotLength n R) → Holds n R b
+holds n z u d l m b e = record { order = rw e (order-pad n z l u d m); held = rw e (records-pad n z l u); bytes = e; many = rw e (slots-pad n z l) }
+
+module _ (b : List ℕ) (h : inOrder b ≡ true) where
+  o : Ordered b
+  o = ordered b h
+
+  -- it holds its own records
+  pub as-it-is : Holds (slotsIn b) (records b) b
+  as-it-is = record { order = h; held = refl; bytes = o .padded; many = refl }
+
+  module _ (x : List ℕ) (w : length x ≡ slotLength) (f : usedForm x ≡ true) where
+    -- a record replaced by one with its PAN
+    pub replaced : (i : ℕ) → i < usedIn b → panOf x ≡ panOf (getD (records b) i []) → Holds (slotsIn b) (set (records b) i x) (putPart slotLength i x b)
+    replaced i k e =
+        let R : List (List ℕ) = records b in
+        holds (slotsIn b) (each-set (o .sized) i x w) (each-set (o .used) i x f) (rw (map-set-same panOf R i x [] e) (o .apart))
+        (rw (length-set R i x) (used-most b)) (o .most) (putPart slotLength i x b)
+        (ap (putPart slotLength i x) (o .padded) ∙ put-pad slotLength (slotsIn b) (o .sized) (used-most b) i x k w)
+
+    -- a record with a PAN that none has, in the first free slot
+    pub added : usedIn b < slotsIn b → mem (panOf x) (map panOf (records b)) ≡ false → Holds (slotsIn b) (records b ++ x ∷ []) (putPart slotLength (usedIn b) x b)
+    unfolding distinct mem
+    added k e =
+        let R : List (List ℕ) = records b in
+        holds (slotsIn b) (each-append (o .sized) (more w none)) (each-append (o .used) (more f none))
+        (rw (map-append panOf R (x ∷ [])) (distinct-append (map panOf R) (panOf x ∷ []) (o .apart) refl (more e none)))
+        (rw (length-append R (x ∷ [])) (omega arith)) (o .most) (putPart slotLength (usedIn b) x b)
+        (ap (putPart slotLength (usedIn b) x) (o .padded) ∙ push-pad slotLength (slotsIn b) (o .sized) x k w)
+
+  -- the used part closed up over its marks, and the free slots behind it as they were
+  pub closed : (marks : List ℕ)
+      → Holds (slotsIn b) (pick good marks (records b)) (closedUp slotLength marks (take (usedIn b * slotLength) b) ++ drop (usedIn b * slotLength) b)
+  closed marks =
+      let R : List (List ℕ) = records b in
+      let k : ℕ = usedIn b * slotLength in
+      holds (slotsIn b) (all-pick good marks (o .sized)) (all-pick good marks (o .used)) (distinct-pick panOf good marks R (o .apart))
+      (omega (arith, pick-length good marks R, used-most b)) (o .most) (closedUp slotLength marks (take k b) ++ drop k b)
+      (ap (λ (x : List ℕ). closedUp slotLength marks (take k x) ++ drop k x) (o .padded)
+      ∙ closed-front slotLength (omega arith) (o .sized) marks (slotsIn b) (used-most b))
