@@ -11,6 +11,6 @@ use Rattle.theory.specs.Pad.{pad}
 unfoldable pub kept : ℕ → List ℕ → List ℕ → List (List ℕ)
 kept w marks b = pick good marks (chop w (length b / w) b)
 
--- they stand in front, what is free behind them is zeros, and what lies behind the last whole part is as it was
+-- they stand in front, what is free behind them is zero bytes, and what lies behind the last whole part is as it was
 unfoldable pub closedUp : ℕ → List ℕ → List ℕ → List ℕ
 closedUp w marks b = flat (pad w (length b / w) (kept w marks b)) ++ drop (length b / w * w) b

@@ -45,7 +45,7 @@ stops mode reception register rows h hgc = formStops mode reception register row
 unfoldable pub numberOf : ℕ → List ℕ → List ℕ → List ℕ → List ℕ → List ℕ → ℕ
 numberOf mode reception register rows h hgc = first (stops mode reception register rows h hgc)
 
--- a stop returns its number and zeros
+-- a stop returns its number and zero counts
 unfoldable pub refusal : ℕ → Imported
 refusal number = record { number = number; taken = 0; rejected = 0; length = 0 }
 

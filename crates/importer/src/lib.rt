@@ -14,7 +14,7 @@ const SLOT: usize = 128;
 
 const LINES: usize = 8192;
 
-// 0 and the three numbers, or the number of a stop and zeros.
+// 0 and the three numbers, or the number of a stop and zero counts.
 pub struct Imported {
     pub number: u64,
     pub taken: u64,

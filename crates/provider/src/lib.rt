@@ -24,7 +24,7 @@ const SLOT: usize = 128;
 
 const LINES: usize = 8192;
 
-// 0 and the two counts, or the number of a stop and zeros.
+// 0 and the two counts, or the number of a stop and zero counts.
 pub struct Counted {
     pub number: u64,
     pub taken: u64,

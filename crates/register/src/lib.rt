@@ -169,7 +169,7 @@ fn all_different(b: &[u8], n: usize) -> bool
     ordering::are_apart(b, SLOT, columns::PAN_FROM, columns::PAN_TO, &asked[..n])
 }
 
-// 0 to 8,192 whole slots, the used ones first and in form, all their PANs different, and zeros behind them.
+// 0 to 8,192 whole slots, the used ones first and in form, all their PANs different, and zero bytes behind them.
 pub fn in_order(b: &[u8]) -> bool
     ensures { λ r. ⌜ InOrder (now (b .entry)) r ⌝ }
 {

@@ -1,5 +1,5 @@
 // What Rust calls, on numbers and byte slices: each function hands on to the crate that does the work, and writes every
-// number that it is lent, zeros at a refusal.
+// number that it is lent, zero at a refusal.
 ghost use mathlib.Core.Path.{_≡_};
 ghost use Prim.Native.Nat.{_*_, _≤_};
 ghost use Rattle.importer.specs.Promises.{Import};

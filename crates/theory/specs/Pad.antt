@@ -4,7 +4,7 @@ use mathlib.Core.List.{List, [], _∷_, _++_}
 use Prim.Native.Nat.{ℕ, _-_}
 use lib.ListN.{length, replicate}
 
--- a free part: w zeros
+-- a free part: w zero bytes
 unfoldable pub free : ℕ → List ℕ
 free w = replicate w 0
 

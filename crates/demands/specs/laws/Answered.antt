@@ -1,5 +1,5 @@
 -- What any outcome of reading back, of an update and of a lookup has: its number is that of the first stop that holds; at a stop
--- zeros, and every lent byte as it was. Assumes nothing.
+-- zero counts, and every lent byte as it was. Assumes nothing.
 use mathlib.Core.Path.{_≡_, refl, sym, ap, _∙_}
 use mathlib.Core.List.{List, _++_}
 use Prim.Native.Nat.{ℕ}

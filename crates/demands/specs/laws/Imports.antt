@@ -1,4 +1,4 @@
--- What any outcome of an import has: at a stop zeros, and every lent byte as it was; at 0 what the definitions say. Assumes nothing.
+-- What any outcome of an import has: at a stop zero counts, and every lent byte as it was; at 0 what the definitions say. Assumes nothing.
 use mathlib.Core.Path.{_≡_, refl, sym, ap, _∙_}
 use mathlib.Core.List.{List}
 use Prim.Native.Nat.{ℕ}

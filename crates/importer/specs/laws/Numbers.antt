@@ -1,4 +1,4 @@
--- What the number answered says: at a stop zeros are returned and every lent byte stays (T4); at 0 nothing stops the
+-- What the number answered says: at a stop the counts are zero and every lent byte stays (T4); at 0 nothing stops the
 -- import, and what follows is written. Assumes nothing.
 use mathlib.Core.Path.{_≡_, refl, sym}
 use mathlib.Core.Bool.{true}

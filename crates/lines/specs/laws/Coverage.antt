@@ -99,7 +99,7 @@ admitted (r ∷ rs) p b = between (r .from) (r .to) p && r .admits b || admitted
 abbrev pub Held : List ℕ → Row → Type 0
 Held l r = run (r .admits) (r .to + 1 - r .from) (field (r .from) (r .to) l) ≡ true
 
--- ---- a rule holds only where its positions do
+-- ---- row by row
 
 -- one of two tests holds
 either : (P : Type 0) (a b : Bool) → a || b ≡ true → (a ≡ true → P) → (b ≡ true → P) → P
@@ -171,6 +171,7 @@ module _ (l : List ℕ) where
       let s₁ = and-split (listed 2 (bytes "01020304050609101112131415202122") (fuel l)) (listed 1 (bytes "YN") (chargeable l)) (s₂ .0) in
       (listed-run (oneOf (bytes "01234569")) 2 _ (fuel l) refl (s₁ .0), listed-run (oneOf (bytes "YN")) 1 _ (chargeable l) refl (s₁ .1), s₂ .1)
 
+  -- each rule holds only where its positions are there and hold what it admits
   pub rows-hold : Each (λ r. r .rule l ≡ true → Held l r) rows
   unfolding rows L8 L9
   rows-hold =
@@ -207,7 +208,7 @@ module _ (l : List ℕ) where
           more a (more l10 (more l1 (more l6 (more l7 (more l7 (more l10 (more l10 (more l10 (more l8 (more l9
           (more l10 (more l10 (more l10 (more l10 (more l10 (more l10 (more l10 (more l10 (more l10 (more l10 none))))))))))))))))))))
 
-  -- T17
+  -- T17: so where the rules of a record hold, all positions do
   pub record-covered : recordHolds l ≡ true → Each (Held l) rows
   record-covered h = each-map (λ r x. x .1 (x .0)) (each-both (record-rules h) rows-hold)
 
@@ -239,6 +240,7 @@ module _ (l : List ℕ) where
       go true v e j now later = rw (le-leb (r .from) p j, e, now (leb-true p (r .to) e))
       go false v e j now later = or-true (between (r .from) (r .to) p && r .admits v) (admitted rs p v) (later (omega (arith, leb-false p (r .to) e)))
 
+  -- and the byte at each is one that the table admits there
   pub record-at : recordHolds l ≡ true → (p : ℕ) → 2 ≤ p → p ≤ 127 → admitted rows p (getD l (p - 1) 0) ≡ true
   record-at h p a b = covered-at rows 2 127 p (omega arith) rows-cover (record-covered h) a b
 
@@ -266,9 +268,9 @@ module _ (l : List ℕ) where
       (omega arith, rw (w, field-split a b (r .to) l o n m) (run-append q (r .to + 1 - a) (b + 1 - (r .to + 1)) (field a (r .to) l) (field (r .to + 1) b l) here (rest .1)))
 
   -- blanks are refused in 92-116: there zeros mean missing
-  pub missing-zeros : L10 l ≡ true → run digit 25 (field 92 116 l) ≡ true
+  pub blanks-refused : L10 l ≡ true → run digit 25 (field 92 116 l) ≡ true
   unfolding cover
-  missing-zeros h =
+  blanks-refused h =
       let m : Parts l = l10-parts l h in
       let digits : (x : ℕ) → digit x ≡ true → digit x ≡ true = λ x e. e in
       rows-run digit (row 92 94 L10 digit ∷ row 95 96 L10 digit ∷ row 97 100 L10 digit ∷ row 101 114 L10 digit ∷ row 115 116 L10 digit ∷ []) 92 116 (omega arith) refl
@@ -279,7 +281,7 @@ module _ (l : List ℕ) where
       (more (separator-held (m .separator-holds), digits) none))))) .1
 
 -- no row admits a control character
-unfoldable pub clear : List Row → Bool
+clear : List Row → Bool
 clear [] = true
 clear (r ∷ rs) = all (λ b. not (r .admits b)) (tableOf (λ b. b) 32) && clear rs
 

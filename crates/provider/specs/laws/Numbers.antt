@@ -1,4 +1,4 @@
--- What the numbers answered say: at a stop zeros are returned and every lent byte stays (T4); at 0 nothing stops the call, and
+-- What the numbers answered say: at a stop the counts are zero and every lent byte stays (T4); at 0 nothing stops the call, and
 -- what follows is written. Assumes nothing.
 use mathlib.Core.Path.{_≡_, refl, sym}
 use mathlib.Core.Bool.{true, false}
