@@ -4,20 +4,16 @@ use mathlib.Core.Path.{_≡_, refl}
 use mathlib.Core.List.{List, [], _++_}
 use Prim.Native.Nat.{ℕ}
 use Rattle.theory.specs.First.{Decided}
-use Rattle.theory.specs.laws.First.{decided}
 use Rattle.lookups.specs.Lookup.{panRules, plateRules}
 use Rattle.lookups.specs.Promises.{ByPan, ByPlate}
-use Rattle.lookups.specs.laws.Outcomes.{by-pan-one, by-plate-one}
 use Rattle.lookups.specs.laws.Found.{by-pan-refused, by-plate-refused}
 use Rattle.importer.specs.declared.Imported.{Imported}
 use Rattle.importer.specs.Import.{stops}
 use Rattle.importer.specs.Promises.{Import}
-use Rattle.importer.specs.laws.Outcomes.{import-one}
 use Rattle.provider.specs.declared.Counted.{Counted}
 use Rattle.provider.specs.ReadBack.{fileStops, blockStops}
 use Rattle.provider.specs.Update.{copyStops, roomStops}
 use Rattle.provider.specs.Promises.{ReadBack, Update}
-use Rattle.provider.specs.laws.Outcomes.{read-back-one, update-one}
 use Rattle.demands.specs.History.{Handed, Imports}
 use Rattle.demands.specs.laws.Imports as imports
 use Rattle.demands.specs.laws.Answered as answered
@@ -42,7 +38,8 @@ pub update-ends : (mode : ℕ) (copy hgv hgc : List ℕ) → (r : Counted) × (c
 unfolding Update
 update-ends mode copy hgv hgc = (_, _, (refl, refl))
 
--- and only one: `import-one`, `by-pan-one`, `by-plate-one`, `read-back-one`, `update-one`, each of the name that the contract cites
+-- and only one: `import-one`, `by-pan-one`, `by-plate-one`, `read-back-one` and `update-one`, each about the name that the contract
+-- cites, stand among the laws of the crates
 
 -- "What is bad is refused by its number in the definition, tested here and not by the caller."
 -- The number is that of a stop that holds where none in front of it does; it is 0 exactly where no stop holds
