@@ -14,11 +14,11 @@ ghost use Rattle.lines.specs.End.{recordOf};
 ghost use Rattle.hgv.specs.Layout.{lineLength};
 ghost use Rattle.register.specs.Register.{slotLength, slotsMost, slotsIn, records, usedIn, inOrder};
 ghost use Rattle.register.specs.Search.{placeOf};
-ghost use Rattle.holdings.specs.Holdings.{takenIn, stored, storedAll, others, isFull};
+ghost use Rattle.holdings.specs.Holdings.{takenIn, stored, others, isFull};
 ghost use Rattle.holdings.specs.AtOnce.{placesIn};
 ghost use Rattle.applying.specs.Fit.{Fit};
 ghost use Rattle.applying.specs.laws.Standing.{Stands, Standing, Sought};
-ghost use Rattle.applying.specs.laws.Steps.{markOf, prepared, storedIf, Left, Stored, Ready, Storing};
+ghost use Rattle.applying.specs.laws.Steps.{markOf, prepared, storedIf, Left, Stored, Ready, CanStore};
 ghost use Rattle.applying.specs.Promises.{Apply};
 
 const SLOT: usize = 128;
@@ -126,7 +126,7 @@ fn store_all(
     found: &[u16],
 )
     requires lined { ⌜ length (now verdicts) * lineLength ≤ length (now lines) ⌝ }
-    requires storing { ⌜ Storing (now reception) (slotsIn (now register)) (storedAll (records (now register)) (map (recordOf (now reception)) (takenIn (now verdicts) (now lines)))) (takenIn (now verdicts) (now lines)) (now register) first ⌝ }
+    requires storing { ⌜ CanStore (now reception) (now register) (now lines) (now verdicts) first ⌝ }
     requires standing { ⌜ Standing (now verdicts) (now lines) first (records (now register)) (now found) 0 ⌝ }
     ensures { λ _. ⌜ Stored (now (reception .entry)) (now (register .entry)) (now (lines .entry)) (now (verdicts .entry)) (now (register .exit)) ⌝ }
 {
@@ -181,7 +181,7 @@ fn store_placed(
 )
     requires lined { ⌜ length (now verdicts) * lineLength ≤ length (now lines) ⌝ }
     requires judged { ⌜ length (now found) ≤ length (now verdicts) ⌝ }
-    requires storing { ⌜ Storing (now reception) (slotsIn (now register)) (storedAll (records (now register)) (map (recordOf (now reception)) (takenIn (now verdicts) (now lines)))) (takenIn (now verdicts) (now lines)) (now register) used ⌝ }
+    requires storing { ⌜ CanStore (now reception) (now register) (now lines) (now verdicts) used ⌝ }
     requires sought { ⌜ Sought mode (records (now register)) (takenIn (now verdicts) (now lines)) (now found) ⌝ }
     ensures { λ _. ⌜ Stored (now (reception .entry)) (now (register .entry)) (now (lines .entry)) (now (verdicts .entry)) (now (register .exit)) ⌝ }
 {

@@ -55,3 +55,8 @@ pub record Storing (reception : List ℕ) (n : ℕ) (goal ls : List (List ℕ)) 
   pub lined : Each (λ l. recordHolds l ≡ true) ls
   pub leads : storedAll (records b) (map (recordOf reception) ls) ≡ goal
   pub room : length goal ≤ n
+
+-- b can take the lines of a file that were taken
+abbrev pub CanStore : List ℕ → List ℕ → List ℕ → List ℕ → ℕ → Type 0
+CanStore reception b lines vs used =
+    Storing reception (slotsIn b) (storedAll (records b) (map (recordOf reception) (takenIn vs lines))) (takenIn vs lines) b used
