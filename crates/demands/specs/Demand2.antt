@@ -50,26 +50,14 @@ module _ (rows from : List ℕ) (R ls : List (List ℕ)) where
 -- Of what was handed over the import answered r with the number 0, and left the register b and the buffer g
 module _ (f : Handed) (register : List ℕ) (r : Imported) (b g : List ℕ) (o : Imports f register r b g) (z : r .number ≡ 0) where
   -- vs are the verdicts of the file's lines, beside the register as it was
-  module _ (vs : List ℕ) (v : Verdicts (f .rows) (sender (f .hgv)) (records register) (linesOf (f .hgv)) vs) where
-    -- "The register then holds exactly the accounts that follow,"
-    pub records-are : records b ≡ holdings (f .mode) (sender (f .hgv)) (f .reception) (records register) (pick good vs (linesOf (f .hgv)))
-    records-are = laws.records-are f register r b g o z vs v
+  abbrev Judged : List ℕ → Type 0
+  Judged vs = Verdicts (f .rows) (sender (f .hgv)) (records register) (linesOf (f .hgv)) vs
 
-    -- "and the HGC is exact to the byte."
-    pub hgc-is : (g ≡ confirmation (f .reception) (f .hgv) vs ++ drop (r .length) (f .hgc)) × (r .length ≡ length (confirmation (f .reception) (f .hgv) vs))
-    hgc-is = (laws.buffer-is f register r b g o z vs v, laws.length-is f register r b g o z vs v)
+  -- "The register then holds exactly the accounts that follow,"
+  pub records-are : (vs : List ℕ) → Judged vs → records b ≡ holdings (f .mode) (sender (f .hgv)) (f .reception) (records register) (pick good vs (linesOf (f .hgv)))
+  records-are vs v = laws.records-are f register r b g o z vs v
 
-    -- taken and rejected are the lines that break no rule, and the others
-    pub counts-are : (r .taken ≡ tally good vs) × (r .rejected ≡ tally bad vs)
-    counts-are = (laws.taken-is f register r b g o z vs v, laws.rejected-is f register r b g o z vs v)
-
-    -- "Reading an HGC back beside its HGV gives the same lines, reasons and counts."
-    -- The buffer cut at the length answered, any block of enough bytes, any outcome that the contract of `read_back` admits
-    pub read-back : (block : List ℕ) (u : Counted) (w : List ℕ) → ReadBack (f .hgv) (take (r .length) g) block u w → linesIn (f .hgv) ≤ length block
-        → (u ≡ record { number = 0; taken = r .taken; rejected = r .rejected }) × (w ≡ vs ++ drop (linesIn (f .hgv)) block)
-    read-back block u w p = laws.read-is f register r b g o z vs v block u w p
-
-  -- behind its records the register is free slots, as many slots as before, and in order again
+  -- behind its records it is free slots, as many slots as before, and in order again
   pub register-is : (b ≡ flat (pad slotLength (slotsIn register) (records b))) × (inOrder b ≡ true)
   register-is = (laws.bytes-are f register r b g o z, laws.order-again f register r b g o z)
 
@@ -82,6 +70,21 @@ module _ (f : Handed) (register : List ℕ) (r : Imported) (b g : List ℕ) (o :
   pub others-stay : f .mode ≡ 1 → (i : ℕ) → i < usedIn register → ofActor (sender (f .hgv)) (partAt slotLength i register) ≡ false → partAt slotLength i b ≡ partAt slotLength i register
   others-stay = laws.places-are f register r b g o z
 
+  -- "and the HGC is exact to the byte."
+  pub hgc-is : (vs : List ℕ) → Judged vs
+      → (g ≡ confirmation (f .reception) (f .hgv) vs ++ drop (r .length) (f .hgc)) × (r .length ≡ length (confirmation (f .reception) (f .hgv) vs))
+  hgc-is vs v = (laws.buffer-is f register r b g o z vs v, laws.length-is f register r b g o z vs v)
+
   -- "Taken and rejected add up to the header's count."
   pub adds-up : r .taken + r .rejected ≡ number (count (f .hgv))
   adds-up = laws.counts-add-up f register r b g o z
+
+  -- they are the lines that break no rule, and the others
+  pub counts-are : (vs : List ℕ) → Judged vs → (r .taken ≡ tally good vs) × (r .rejected ≡ tally bad vs)
+  counts-are vs v = (laws.taken-is f register r b g o z vs v, laws.rejected-is f register r b g o z vs v)
+
+  -- "Reading an HGC back beside its HGV gives the same lines, reasons and counts."
+  -- The buffer cut at the length answered, any block of enough bytes, any outcome that the contract of `read_back` admits
+  pub read-back : (vs : List ℕ) → Judged vs → (block : List ℕ) (u : Counted) (w : List ℕ) → ReadBack (f .hgv) (take (r .length) g) block u w → linesIn (f .hgv) ≤ length block
+      → (u ≡ record { number = 0; taken = r .taken; rejected = r .rejected }) × (w ≡ vs ++ drop (linesIn (f .hgv)) block)
+  read-back vs v block u w p = laws.read-is f register r b g o z vs v block u w p
