@@ -11,7 +11,7 @@ ghost use Rattle.theory.specs.Parts.{chop};
 ghost use Rattle.theory.specs.Pick.{good};
 ghost use Rattle.columns.specs.Columns.{panOf};
 ghost use Rattle.lines.specs.End.{recordOf};
-ghost use Rattle.hgv.specs.Layout.{lineLength};
+ghost use Rattle.sizes.specs.Sizes.{lineLength};
 ghost use Rattle.register.specs.Register.{slotLength, slotsMost, slotsIn, records, usedIn, inOrder};
 ghost use Rattle.register.specs.Search.{placeOf};
 ghost use Rattle.holdings.specs.Holdings.{takenIn, stored, others, isFull};

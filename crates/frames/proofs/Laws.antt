@@ -5,7 +5,8 @@ use Prim.Native.Nat.{ℕ, _-_, _<_}
 use native.Mathlib.Omega.{arith}
 use lib.ListN.{length, take, drop, length-drop}
 use lib.Seq.{take-all}
-use Rattle.hgv.specs.Layout.{footerLength, footer}
+use Rattle.hgv.specs.Layout.{footer}
+use Rattle.sizes.specs.Sizes.{footerLength}
 
 module _ (h : List ℕ) where
   pub footer-short : length h < footerLength → take (length h - 0) (drop 0 h) ≡ footer h

@@ -10,7 +10,8 @@ use Rattle.theory.specs.Every.{all, run}
 use Rattle.theory.specs.Walk.{each}
 use Rattle.texts.specs.Field.{field, lineEnd}
 use Rattle.fields.specs.Field.{zeroDigit, plain}
-use Rattle.hgv.specs.Layout.{lineLength, footerLength, linesOf, footer}
+use Rattle.sizes.specs.Sizes.{footerLength}
+use Rattle.hgv.specs.Layout.{widthOf, linesOf, footer}
 
 -- `2`, 62 zeros, LF
 unfoldable pub footerForm : List ℕ → Bool
@@ -26,4 +27,4 @@ framed width l = eqs (field 1 1 l) (bytes "1") && all plain (field 2 (width - 1)
 
 -- stop 32 is given where this does not hold
 unfoldable pub framesHold : List ℕ → Bool
-framesHold h = each (framed lineLength) (linesOf h)
+framesHold h = each (framed (widthOf h)) (linesOf h)

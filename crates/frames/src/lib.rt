@@ -26,17 +26,17 @@ const PLAIN: u8 = 32;
 fn footer<'a>(h: &'a [u8]) -> &'a [u8]
     ensures { λ r. ⌜ now r ≡ footer (now (h .entry)) ⌝ }
 {
-    if h.len() < hgv::FOOTER {
+    if h.len() < sizes::FOOTER {
         return &h[0..];
     }
-    let start = h.len() - hgv::FOOTER;
+    let start = h.len() - sizes::FOOTER;
     &h[start..]
 }
 
 pub fn is_footer(f: &[u8]) -> bool
     ensures { λ r. ⌜ IsFooter (now (f .entry)) r ⌝ }
 {
-    (f.len() == hgv::FOOTER)
+    (f.len() == sizes::FOOTER)
         & texts::has_text(f, FOOTER_TYPE, FOOTER_TYPE, b"2")
         & fields::is_zeros(texts::field(f, FOOTER_ZEROS_FROM, FOOTER_ZEROS_TO), 62)
         & texts::has_text(f, FOOTER_END, FOOTER_END, b"\n")
@@ -89,5 +89,5 @@ fn each_framed(lines: &[u8], width: usize, n: usize) -> bool
 pub fn has_frames(h: &[u8]) -> bool
     ensures { λ r. ⌜ HasFrames (now (h .entry)) r ⌝ }
 {
-    each_framed(hgv::body(h), hgv::LINE, hgv::lines_in(h))
+    each_framed(hgv::body(h), hgv::width(h), hgv::lines_in(h))
 }

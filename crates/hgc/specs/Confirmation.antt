@@ -10,7 +10,8 @@ use Rattle.theory.specs.Join.{flat}
 use Rattle.texts.specs.Field.{lineEnd}
 use Rattle.numbers.specs.Number.{decimal}
 use Rattle.columns.specs.Columns.{text}
-use Rattle.hgv.specs.Layout.{footerLength, linesOf}
+use Rattle.hgv.specs.Layout.{linesOf}
+use Rattle.sizes.specs.Sizes.{footerLength}
 use Rattle.header.specs.Header.{sender, listSequence}
 
 abbrev pub headLength : ℕ

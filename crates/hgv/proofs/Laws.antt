@@ -4,7 +4,8 @@ use mathlib.Core.List.{List}
 use Prim.Native.Nat.{ℕ, _+_, _-_, _<_}
 use native.Mathlib.Omega.{arith}
 use lib.ListN.{length, take, drop}
-use Rattle.hgv.specs.Layout.{headerLength, footerLength, body}
+use Rattle.sizes.specs.Sizes.{headerLength, footerLength}
+use Rattle.hgv.specs.Layout.{body}
 
 module _ (h : List ℕ) where
   pub body-none : length h < headerLength + footerLength → take 0 (drop 0 h) ≡ body h

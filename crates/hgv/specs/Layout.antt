@@ -6,30 +6,23 @@ use mathlib.Core.List.{List}
 use lib.Dec.{eqb, leb}
 use lib.ListN.{length, take, drop}
 use Rattle.theory.specs.Parts.{chop}
-
-abbrev pub headerLength : ℕ
-headerLength = 128
-
-abbrev pub lineLength : ℕ
-lineLength = 128
-
-abbrev pub footerLength : ℕ
-footerLength = 64
-
-abbrev pub linesMost : ℕ
-linesMost = 8192
+use Rattle.sizes.specs.Sizes.{headerLength, lineLength, footerLength, linesMost}
 
 -- what lies between header and footer
 abbrev pub bodyLength : List ℕ → ℕ
 bodyLength h = length h - (headerLength + footerLength)
 
+-- the width of its lines
+unfoldable pub widthOf : List ℕ → ℕ
+widthOf h = lineLength
+
 -- the number of lines, n
 unfoldable pub linesIn : List ℕ → ℕ
-linesIn h = bodyLength h / lineLength
+linesIn h = bodyLength h / widthOf h
 
 -- stop 25 is given where this does not hold: not shorter than 192, 192 + 128n, n not above 8,192
 unfoldable pub lengthHolds : List ℕ → Bool
-lengthHolds h = leb (headerLength + footerLength) (length h) && eqb (bodyLength h % lineLength) 0 && leb (linesIn h) linesMost
+lengthHolds h = leb (headerLength + footerLength) (length h) && eqb (bodyLength h % widthOf h) 0 && leb (linesIn h) linesMost
 
 -- the body, from byte 129 to the footer
 unfoldable pub body : List ℕ → List ℕ
@@ -37,7 +30,7 @@ body h = take (bodyLength h) (drop headerLength h)
 
 -- the lines, in file order
 unfoldable pub linesOf : List ℕ → List (List ℕ)
-linesOf h = chop lineLength (linesIn h) (body h)
+linesOf h = chop (widthOf h) (linesIn h) (body h)
 
 -- the last 64 bytes
 unfoldable pub footer : List ℕ → List ℕ

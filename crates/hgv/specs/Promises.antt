@@ -3,7 +3,10 @@ use mathlib.Core.Path.{_≡_}
 use mathlib.Core.Bool.{Bool}
 use mathlib.Core.List.{List}
 use Prim.Native.Nat.{ℕ}
-use Rattle.hgv.specs.Layout.{linesIn, lengthHolds, body}
+use Rattle.hgv.specs.Layout.{widthOf, linesIn, lengthHolds, body}
+
+abbrev pub Width : List ℕ → ℕ → Type 0
+Width h r = r ≡ widthOf h
 
 abbrev pub LinesIn : List ℕ → ℕ → Type 0
 LinesIn h r = r ≡ linesIn h

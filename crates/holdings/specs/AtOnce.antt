@@ -5,7 +5,7 @@ use Prim.Native.Nat.{ℕ}
 use lib.Dec.{leb}
 use Rattle.theory.specs.Table.{tableOf}
 use Rattle.columns.specs.Columns.{panOf}
-use Rattle.hgv.specs.Layout.{lineLength}
+use Rattle.sizes.specs.Sizes.{lineLength}
 use Rattle.register.specs.Register.{slotsMost}
 use Rattle.ordering.specs.Places.{placeFor}
 

@@ -10,7 +10,7 @@ use Rattle.theory.specs.Keep.{sift}
 use Rattle.theory.specs.Pick.{good, pick}
 use Rattle.columns.specs.Columns.{panOf}
 use Rattle.lines.specs.End.{recordOf}
-use Rattle.hgv.specs.Layout.{lineLength}
+use Rattle.sizes.specs.Sizes.{lineLength}
 use Rattle.register.specs.Search.{holdsPan, ofActor}
 
 -- the lines that were taken: those whose verdict is 0

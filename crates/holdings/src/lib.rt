@@ -5,7 +5,7 @@ ghost use Prim.Native.Nat.{_*_, _≤_, _<_};
 ghost use lib.ListN.{length, getD};
 ghost use Rattle.theory.specs.Count.{bump};
 ghost use Rattle.theory.specs.Pick.{good};
-ghost use Rattle.hgv.specs.Layout.{lineLength};
+ghost use Rattle.sizes.specs.Sizes.{lineLength};
 ghost use Rattle.columns.specs.Columns.{panOf};
 ghost use Rattle.register.specs.Register.{slotsMost, slotsIn, slotsOf};
 ghost use Rattle.register.specs.Search.{placeOf};

@@ -13,7 +13,8 @@ use Rattle.theory.specs.Tally.{tally}
 use Rattle.theory.specs.laws.Tally.{tallies}
 use Rattle.header.specs.Header.{sender}
 use Rattle.times.specs.laws.Moment.{real-length}
-use Rattle.hgv.specs.Layout.{lineLength, linesMost, linesIn, lengthHolds, body}
+use Rattle.hgv.specs.Layout.{linesIn, lengthHolds, body}
+use Rattle.sizes.specs.Sizes.{lineLength, linesMost}
 use Rattle.register.specs.Register.{records, slotsIn, inOrder}
 use Rattle.upkeep.specs.Holds.{Holds}
 use Rattle.verdicts.specs.Verdict.{taken}

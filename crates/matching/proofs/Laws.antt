@@ -22,7 +22,8 @@ use Rattle.texts.specs.Field.{field}
 use Rattle.texts.specs.laws.Field.{field-field}
 use Rattle.numbers.specs.Number.{number}
 use Rattle.columns.specs.Columns.{text, panOf}
-use Rattle.hgv.specs.Layout.{lineLength, linesIn, body, linesOf}
+use Rattle.hgv.specs.Layout.{linesIn, body, linesOf}
+use Rattle.sizes.specs.Sizes.{lineLength}
 use Rattle.hgv.specs.laws.Layout.{lines-room, length-lines}
 use Rattle.hgc.specs.Confirmation.{answerLength}
 use Rattle.pairing.specs.Backwards.{isLast, lower, waiting, paired}

@@ -13,7 +13,8 @@ use Rattle.theory.specs.Parts.{chop}
 use Rattle.theory.specs.Pick.{good, bad, pick}
 use Rattle.theory.specs.Tally.{tally}
 use Rattle.header.specs.Header.{sender}
-use Rattle.hgv.specs.Layout.{lineLength, linesMost, linesIn, body, linesOf}
+use Rattle.hgv.specs.Layout.{linesIn, body, linesOf}
+use Rattle.sizes.specs.Sizes.{lineLength, linesMost}
 use Rattle.hgv.specs.laws.Layout.{lines-room, lines-most}
 use Rattle.register.specs.Register.{slotsIn, records, inOrder}
 use Rattle.holdings.specs.Holdings.{holdings}

@@ -19,7 +19,8 @@ use Rattle.times.specs.Time.{realTime}
 use Rattle.columns.specs.Columns.{text, panOf}
 use Rattle.lines.specs.Rules.{recordHolds}
 use Rattle.register.specs.Search.{ofActor}
-use Rattle.hgv.specs.Layout.{footerLength, linesOf}
+use Rattle.hgv.specs.Layout.{linesOf}
+use Rattle.sizes.specs.Sizes.{footerLength}
 use Rattle.frames.specs.Frames.{footerHolds}
 use Rattle.header.specs.Header.{sender, listSequence}
 use Rattle.hgc.specs.Confirmation.{headLength, answerLength, outcome}

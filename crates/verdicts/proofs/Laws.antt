@@ -1,35 +1,16 @@
 -- What the functions of this crate cite. Assumes nothing.
 use mathlib.Core.Path.{_≡_, refl, sym, _∙_}
-use mathlib.Core.Bool.{Bool, true, false}
+use mathlib.Core.Bool.{Bool}
 use mathlib.Core.List.{List}
 use Prim.Native.Nat.{ℕ, _≤_}
-use native.Mathlib.Omega.{arith}
-use lib.Dec.{eqb}
 use Rattle.theory.specs.First.{choose, first}
 use Rattle.theory.specs.laws.First.{otherwise-stands, otherwise-next, numberedTo, first-most}
-use Rattle.theory.specs.Count.{bump}
 use Rattle.theory.specs.Walk.{some}
-use Rattle.theory.specs.Pick.{good}
-use Rattle.theory.specs.laws.Among.{good-is}
 use Rattle.columns.specs.Columns.{panOf}
 use Rattle.lines.specs.Rules.{lineRules, lineFault}
 use Rattle.register.specs.Search.{holdsPan, heldByAnother}
 use Rattle.verdicts.specs.Verdict.{ownRules, verdict}
 use Rattle.verdicts.specs.laws.Verdict.{own-is, verdict-is}
-
--- a verdict counted
-pub counts : (v m : ℕ) → m ≡ choose (eqb v 0) 1 0 → m ≡ bump (good v) 0
-unfolding choose bump
-counts v m e = e ∙ rw (good-is v) (go (eqb v 0))
-  where
-    go : (b : Bool) → choose b 1 0 ≡ bump b 0
-    go true = refl
-    go false = refl
-
-pub counts-most : (b : Bool) (m : ℕ) → m ≡ choose b 1 0 → m ≤ 1
-unfolding choose
-counts-most true m e = omega arith
-counts-most false m e = omega arith
 
 -- ---- a rule behind others, as the code asks it
 

@@ -5,22 +5,22 @@ ghost use Prim.Native.Nat.{_+_, _*_, _≤_};
 ghost use lib.ListN.{length};
 ghost use Rattle.theory.specs.First.{first};
 ghost use Rattle.theory.specs.Parts.{chop, partAt};
+ghost use Rattle.theory.specs.Walk.{some};
 ghost use Rattle.theory.specs.Pick.{good, pick};
 ghost use Rattle.register.specs.Register.{slotsOf};
-ghost use Rattle.hgv.specs.Layout.{lineLength, linesIn};
+ghost use Rattle.register.specs.Search.{holdsPan};
+ghost use Rattle.hgv.specs.Layout.{linesIn};
 ghost use Rattle.verdicts.specs.Verdict.{ownRules, verdict, verdictsOf};
-ghost use Rattle.verdicts.specs.Promises.{IsNamed, Judge, CountTaken};
-
-const LINE: usize = 128;
+ghost use Rattle.verdicts.specs.Promises.{Judge};
 
 // Has one of the taken lines among the first n this PAN.
-pub fn is_named(lines: &[u8], verdicts: &[u8], n: usize, pan: &[u8]) -> bool
-    requires { ⌜ (n * lineLength ≤ length (now lines)) × (n ≤ length (now verdicts)) ⌝ }
-    ensures { λ r. ⌜ IsNamed (now (lines .entry)) (now (verdicts .entry)) n (now (pan .entry)) r ⌝ }
+fn is_named(lines: &[u8], width: usize, verdicts: &[u8], n: usize, pan: &[u8]) -> bool
+    requires { ⌜ (n * width ≤ length (now lines)) × (n ≤ length (now verdicts)) ⌝ }
+    ensures { λ r. ⌜ r ≡ some (holdsPan (now (pan .entry))) (pick good (now (verdicts .entry)) (chop width n (now (lines .entry)))) ⌝ }
 {
     let mut i: usize = 0;
     while i < n {
-        let l = texts::part(lines, LINE, i);
+        let l = texts::part(lines, width, i);
         let same = texts::has_text(l, columns::PAN_FROM, columns::PAN_TO, pan);
         if (verdicts[i] == 0) & same {
             return true;
@@ -48,35 +48,43 @@ fn own_fault(l: &[u8], sender: &[u8], rows: &[u8], held: &[u8]) -> u8
 // The verdict of line i, beside those of the lines before it.
 fn verdict_at(
     lines: &[u8],
+    width: usize,
     i: usize,
     verdicts: &[u8],
     sender: &[u8],
     rows: &[u8],
     held: &[u8],
 ) -> u8
-    requires { ⌜ (i * lineLength + lineLength ≤ length (now lines)) × (i ≤ length (now verdicts)) ⌝ }
-    ensures { λ r. ⌜ r ≡ verdict (now (rows .entry)) (now (sender .entry)) (slotsOf (now (held .entry))) (pick good (now (verdicts .entry)) (chop lineLength i (now (lines .entry)))) (partAt lineLength i (now (lines .entry))) ⌝ }
+    requires { ⌜ (i * width + width ≤ length (now lines)) × (i ≤ length (now verdicts)) ⌝ }
+    ensures { λ r. ⌜ r ≡ verdict (now (rows .entry)) (now (sender .entry)) (slotsOf (now (held .entry))) (pick good (now (verdicts .entry)) (chop width i (now (lines .entry)))) (partAt width i (now (lines .entry))) ⌝ }
 {
-    let l = texts::part(lines, LINE, i);
+    let l = texts::part(lines, width, i);
     let fault = own_fault(l, sender, rows, held);
     if fault != 0 {
         return fault;
     }
     let pan = texts::field(l, columns::PAN_FROM, columns::PAN_TO);
-    if is_named(lines, verdicts, i, pan) {
+    if is_named(lines, width, verdicts, i, pan) {
         return 1;
     }
     0
 }
 
 // A verdict for each of the lines, as many as `verdicts` has room for.
-fn judge_lines(lines: &[u8], sender: &[u8], rows: &[u8], held: &[u8], verdicts: &mut [u8])
-    requires { ⌜ length (now verdicts) * lineLength ≤ length (now lines) ⌝ }
-    ensures { λ _. ⌜ now (verdicts .exit) ≡ verdictsOf (now (rows .entry)) (now (sender .entry)) (slotsOf (now (held .entry))) (chop lineLength (length (now (verdicts .entry))) (now (lines .entry))) ⌝ }
+fn judge_lines(
+    lines: &[u8],
+    width: usize,
+    sender: &[u8],
+    rows: &[u8],
+    held: &[u8],
+    verdicts: &mut [u8],
+)
+    requires { ⌜ length (now verdicts) * width ≤ length (now lines) ⌝ }
+    ensures { λ _. ⌜ now (verdicts .exit) ≡ verdictsOf (now (rows .entry)) (now (sender .entry)) (slotsOf (now (held .entry))) (chop width (length (now (verdicts .entry))) (now (lines .entry))) ⌝ }
 {
     let mut i: usize = 0;
     while i < verdicts.len() {
-        let v = verdict_at(lines, i, verdicts, sender, rows, held);
+        let v = verdict_at(lines, width, i, verdicts, sender, rows, held);
         verdicts[i] = v;
         i += 1;
     }
@@ -88,19 +96,8 @@ pub fn judge(hgv: &[u8], rows: &[u8], register: &[u8], verdicts: &mut [u8])
     ensures { λ _. ⌜ Judge (now (hgv .entry)) (now (rows .entry)) (now (register .entry)) (now (verdicts .entry)) (now (verdicts .exit)) ⌝ }
 {
     let lines = hgv::body(hgv);
+    let width = hgv::width(hgv);
     let sender = header::sender(hgv);
-    judge_lines(lines, sender, rows, register::used_part(register), verdicts);
-}
-
-// How many of them are 0.
-pub fn count_taken(verdicts: &[u8]) -> u64
-    ensures { λ r. ⌜ CountTaken (now (verdicts .entry)) r ⌝ }
-{
-    let mut k: u64 = 0;
-    let mut i: usize = 0;
-    while i < verdicts.len() {
-        k = k + rules::first(verdicts[i] == 0, 1, 0);
-        i += 1;
-    }
-    k
+    let held = register::used_part(register);
+    judge_lines(lines, width, sender, rows, held, verdicts);
 }

@@ -20,7 +20,7 @@ use Rattle.theory.specs.Distinct.{distinct}
 use Rattle.theory.specs.laws.Distinct.{distinct-head, distinct-tail}
 use Rattle.theory.specs.laws.Among.{takenFrom, taken-start, taken-step}
 use Rattle.columns.specs.Columns.{panOf}
-use Rattle.hgv.specs.Layout.{lineLength}
+use Rattle.sizes.specs.Sizes.{lineLength}
 use Rattle.register.specs.Register.{slotsMost}
 use Rattle.register.specs.Search.{holdsPan, placeOf}
 use Rattle.holdings.specs.Holdings.{stored, isFull}

@@ -22,7 +22,8 @@ use Rattle.numbers.specs.Number.{number, decimal}
 use Rattle.numbers.specs.laws.Number.{number-2, number-15}
 use Rattle.times.specs.laws.Moment.{real-length}
 use Rattle.columns.specs.Columns.{text, panOf}
-use Rattle.hgv.specs.Layout.{lineLength, linesMost, linesIn, linesOf}
+use Rattle.hgv.specs.Layout.{linesIn, linesOf}
+use Rattle.sizes.specs.Sizes.{lineLength, linesMost}
 use Rattle.hgv.specs.laws.Layout.{length-lines, each-line, lines-most}
 use Rattle.frames.specs.Frames.{framed, framesHold}
 use Rattle.frames.specs.laws.Frames.{framed-is}

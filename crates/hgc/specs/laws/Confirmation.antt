@@ -17,7 +17,8 @@ use Rattle.texts.specs.laws.Field.{field-length}
 use Rattle.numbers.specs.Number.{decimal}
 use Rattle.numbers.specs.laws.Number.{length-decimal}
 use Rattle.columns.specs.Columns.{text}
-use Rattle.hgv.specs.Layout.{lineLength, footerLength, linesIn, lengthHolds, linesOf}
+use Rattle.hgv.specs.Layout.{linesIn, lengthHolds, linesOf}
+use Rattle.sizes.specs.Sizes.{lineLength, footerLength}
 use Rattle.hgv.specs.laws.Layout.{length-lines, each-line, length-least}
 use Rattle.header.specs.Header.{sender, listSequence}
 use Rattle.hgc.specs.Confirmation.{headLength, answerLength, confirmationLength, zeros, outcome, names, counts, head, answer, answers, foot, confirmation}

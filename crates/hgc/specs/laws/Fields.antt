@@ -16,7 +16,7 @@ use Rattle.texts.specs.laws.Field.{field-length, field-before, field-behind, fi
 use Rattle.numbers.specs.Number.{decimal}
 use Rattle.numbers.specs.laws.Number.{length-decimal}
 use Rattle.columns.specs.Columns.{text}
-use Rattle.hgv.specs.Layout.{lineLength}
+use Rattle.sizes.specs.Sizes.{lineLength}
 use Rattle.frames.specs.Frames.{footerForm}
 use Rattle.header.specs.Header.{sender, listSequence}
 use Rattle.hgc.specs.Confirmation.{zeros, outcome, names, counts, head, answer, answers, foot}

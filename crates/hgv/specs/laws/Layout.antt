@@ -12,35 +12,44 @@ use Rattle.theory.specs.laws.Truth.{and-left, and-right}
 use Rattle.theory.specs.laws.Parts.{length-chop}
 use Rattle.theory.specs.Each.{Each}
 use Rattle.theory.specs.laws.Join.{each-chop}
-use Rattle.hgv.specs.Layout.{headerLength, lineLength, footerLength, linesMost, bodyLength, linesIn, lengthHolds, body, linesOf}
+use Rattle.sizes.specs.Sizes.{headerLength, lineLength, footerLength, linesMost}
+use Rattle.hgv.specs.Layout.{bodyLength, widthOf, linesIn, lengthHolds, body, linesOf}
 
 -- the three tests of the length
 abbrev long : List ℕ → Bool
 long h = leb (headerLength + footerLength) (length h)
 
 abbrev lined : List ℕ → Bool
-lined h = eqb (bodyLength h % lineLength) 0
+lined h = eqb (bodyLength h % widthOf h) 0
 
 abbrev few : List ℕ → Bool
 few h = leb (linesIn h) linesMost
 
 module _ (h : List ℕ) where
+  -- every column of the document's table has its place in a line
+  pub width-least : lineLength ≤ widthOf h
+  unfolding widthOf
+  width-least = omega arith
+
+  pub width-has : (k : ℕ) → k ≤ lineLength → k ≤ widthOf h
+  width-has k l = omega (arith, width-least)
+
   pub length-body : length (body h) ≡ bodyLength h
   unfolding body
   length-body = simp (length-take, length-drop) (omega arith)
 
   -- the lines lie within the body
-  pub lines-room : linesIn h * lineLength ≤ length (body h)
+  pub lines-room : linesIn h * widthOf h ≤ length (body h)
   unfolding linesIn
-  lines-room = omega (arith, length-body, div-add-mod' (bodyLength h) lineLength)
+  lines-room = omega (arith, length-body, div-add-mod' (bodyLength h) (widthOf h))
 
   pub length-lines : length (linesOf h) ≡ linesIn h
   unfolding linesOf
-  length-lines = length-chop lineLength (linesIn h) (body h)
+  length-lines = length-chop (widthOf h) (linesIn h) (body h)
 
-  pub each-line : Each (λ l. length l ≡ lineLength) (linesOf h)
+  pub each-line : Each (λ l. length l ≡ widthOf h) (linesOf h)
   unfolding linesOf
-  each-line = each-chop lineLength (linesIn h) (body h) lines-room
+  each-line = each-chop (widthOf h) (linesIn h) (body h) lines-room
 
   module _ (e : lengthHolds h ≡ true) where
     pub length-least : headerLength + footerLength ≤ length h
@@ -48,13 +57,13 @@ module _ (h : List ℕ) where
     length-least = leb-true (headerLength + footerLength) (length h) (and-left (long h) (lined h) (and-left (long h && lined h) (few h) e))
 
     -- no byte is left over
-    pub length-lined : length (body h) ≡ linesIn h * lineLength
+    pub length-lined : length (body h) ≡ linesIn h * widthOf h
     unfolding lengthHolds linesIn
     length-lined =
-        let z : bodyLength h % lineLength ≡ 0 = eqb-true (bodyLength h % lineLength) 0 (and-right (long h) (lined h) (and-left (long h && lined h) (few h) e)) in
-        omega (arith, length-body, div-add-mod' (bodyLength h) lineLength)
+        let z : bodyLength h % widthOf h ≡ 0 = eqb-true (bodyLength h % widthOf h) 0 (and-right (long h) (lined h) (and-left (long h && lined h) (few h) e)) in
+        omega (arith, length-body, div-add-mod' (bodyLength h) (widthOf h))
 
-    pub length-whole : length h ≡ headerLength + footerLength + linesIn h * lineLength
+    pub length-whole : length h ≡ headerLength + footerLength + linesIn h * widthOf h
     length-whole = omega (arith, length-least, length-lined, length-body)
 
     pub lines-most : linesIn h ≤ linesMost

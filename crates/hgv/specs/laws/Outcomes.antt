@@ -4,7 +4,10 @@ use mathlib.Core.Bool.{Bool}
 use mathlib.Core.List.{List}
 use Prim.Native.Nat.{ℕ}
 use Rattle.theory.specs.laws.Outcome.{one-outcome}
-use Rattle.hgv.specs.Promises.{LinesIn, HasLength, Body}
+use Rattle.hgv.specs.Promises.{Width, LinesIn, HasLength, Body}
+
+pub width-one : (h : List ℕ) (r s : ℕ) → Width h r → Width h s → r ≡ s
+width-one h r s = one-outcome
 
 pub lines-in-one : (h : List ℕ) (r s : ℕ) → LinesIn h r → LinesIn h s → r ≡ s
 lines-in-one h r s = one-outcome

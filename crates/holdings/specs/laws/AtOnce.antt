@@ -11,7 +11,7 @@ use Rattle.theory.specs.Parts.{partAt}
 use Rattle.theory.specs.Pick.{good}
 use Rattle.theory.specs.laws.Table.{entry, length-table}
 use Rattle.columns.specs.Columns.{panOf}
-use Rattle.hgv.specs.Layout.{lineLength}
+use Rattle.sizes.specs.Sizes.{lineLength}
 use Rattle.register.specs.Register.{slotsMost}
 use Rattle.register.specs.Search.{holdsPan, placeOf}
 use Rattle.ordering.specs.Places.{placeFor}

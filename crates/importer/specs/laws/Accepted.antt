@@ -19,7 +19,8 @@ use Rattle.lines.specs.Faultless.{Faultless}
 use Rattle.lines.specs.laws.Faultless.{faultless-record}
 use Rattle.records.specs.laws.Written.{record-front}
 use Rattle.records.specs.laws.Holds.{record-long}
-use Rattle.hgv.specs.Layout.{lineLength, linesMost, linesIn, body, linesOf}
+use Rattle.hgv.specs.Layout.{linesIn, body, linesOf}
+use Rattle.sizes.specs.Sizes.{lineLength, linesMost}
 use Rattle.hgv.specs.laws.Layout.{lines-room, lines-most}
 use Rattle.header.specs.Header.{sender}
 use Rattle.header.specs.laws.Header.{header-sender}

@@ -27,7 +27,8 @@ use Rattle.numbers.specs.Number.{decimal}
 use Rattle.numbers.specs.laws.Number.{decimal-digits}
 use Rattle.lines.specs.Rules.{recordHolds}
 use Rattle.register.specs.Search.{ofActor}
-use Rattle.hgv.specs.Layout.{lineLength, footerLength, linesIn, lengthHolds, linesOf, footer}
+use Rattle.hgv.specs.Layout.{linesIn, lengthHolds, linesOf, footer}
+use Rattle.sizes.specs.Sizes.{lineLength, footerLength}
 use Rattle.frames.specs.Frames.{footerHolds}
 use Rattle.hgv.specs.laws.Layout.{length-lines, each-line, length-least}
 use Rattle.header.specs.Header.{sender, listSequence}

@@ -10,10 +10,10 @@ use Rattle.verdicts.proofs.is_named.Statement.{statement}
 use Rattle.verdicts.proofs.is_named.Tie as tie
 
 abbrev Inv-loop : tie.InvT-loop
-Inv-loop lines verdicts n pan i₀ i = (i ≤ n) × Among (holdsPan pan) 128 n verdicts lines i
+Inv-loop lines width verdicts n pan i₀ i = (i ≤ n) × Among (holdsPan pan) width n verdicts lines i
 
 abbrev μ-loop : tie.MeasureT-loop
-μ-loop lines verdicts n pan i₀ i = n - i
+μ-loop lines width verdicts n pan i₀ i = n - i
 
 loop-holds : tie.Need-loop-holds Inv-loop μ-loop
 loop-holds c = (omega arith, among-start _ _ _ _ _)
@@ -21,7 +21,7 @@ loop-holds c = (omega arith, among-start _ _ _ _ _)
 part-requires : tie.Need-part-requires Inv-loop μ-loop
 part-requires c κs =
     let x = c .before .before .before .before .before in
-    part-fits 128 (x .args .n) (c .before .loop .i) _ (x .pre .0) (c .loop-test .taken)
+    part-fits (x .args .width) (x .args .n) (c .before .loop .i) _ (x .pre .0) (c .loop-test .taken)
 
 returns : tie.Need-returns Inv-loop μ-loop
 unfolding holdsPan

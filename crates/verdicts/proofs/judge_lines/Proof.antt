@@ -12,10 +12,10 @@ use Rattle.verdicts.proofs.judge_lines.Statement.{statement}
 use Rattle.verdicts.proofs.judge_lines.Tie as tie
 
 abbrev Inv-loop : tie.InvT-loop
-Inv-loop lines sender rows held verdicts₀ i₀ verdicts i = (i ≤ length verdicts₀) × ((length verdicts ≡ length verdicts₀) × Judged (verdict rows sender (slotsOf held)) 128 lines i verdicts)
+Inv-loop lines width sender rows held verdicts₀ i₀ verdicts i = (i ≤ length verdicts₀) × ((length verdicts ≡ length verdicts₀) × Judged (verdict rows sender (slotsOf held)) width lines i verdicts)
 
 abbrev μ-loop : tie.MeasureT-loop
-μ-loop lines sender rows held verdicts₀ i₀ verdicts i = length verdicts₀ - i
+μ-loop lines width sender rows held verdicts₀ i₀ verdicts i = length verdicts₀ - i
 
 loop-holds : tie.Need-loop-holds Inv-loop μ-loop
 loop-holds c = (omega arith, (refl, judged-start _ _ _ _))
@@ -23,7 +23,7 @@ loop-holds c = (omega arith, (refl, judged-start _ _ _ _))
 verdict-at-requires : tie.Need-verdict-at-requires Inv-loop μ-loop
 verdict-at-requires c κs =
     let x = c .before .before .before .before .before .before .before .before in
-    (part-fits 128 _ (c .before .before .loop .i) _ (x .pre) (omega (arith, c .before .before .loop .inv .1 .0, c .before .loop-test .taken)), omega (arith, c .before .loop-test .taken))
+    (part-fits _ _ (c .before .before .loop .i) _ (x .pre) (omega (arith, c .before .before .loop .inv .1 .0, c .before .loop-test .taken)), omega (arith, c .before .loop-test .taken))
 
 loop-less : tie.Need-loop-less Inv-loop μ-loop
 loop-less c = omega (arith, c .before .before .before .loop .inv .1 .0, c .before .before .loop-test .taken)

@@ -5,9 +5,9 @@ use borrow.Author.Needs.{needs}
 use lib.ListN.{length}
 use Rattle.theory.specs.laws.Tally.{Tallied, tallied-start, tallied-turn, tallied-end}
 use Rattle.theory.specs.Pick.{good}
-use Rattle.verdicts.proofs.Laws.{counts, counts-most}
-use Rattle.verdicts.proofs.count_taken.Statement.{statement}
-use Rattle.verdicts.proofs.count_taken.Tie as tie
+use Rattle.taken.proofs.Laws.{counts, counts-most}
+use Rattle.taken.proofs.count_taken.Statement.{statement}
+use Rattle.taken.proofs.count_taken.Tie as tie
 
 abbrev Inv-loop : tie.InvT-loop
 Inv-loop verdicts k₀ i₀ k i = (k ≤ i) × ((i ≤ length verdicts) × Tallied good verdicts i k)

@@ -1,0 +1,3 @@
+pub mod Taken
+pub mod Promises
+pub mod laws
