@@ -17,7 +17,8 @@ use Rattle.closing.specs.Closing.{kept, closedUp}
 use Rattle.register.specs.Register.{slotLength, slotsMost, slotsIn, slotsOf, records, usedIn, usedPart, inOrder}
 use Rattle.register.specs.Search.{ofActor}
 use Rattle.register.specs.laws.Register.{ordered, used-most, used-fits, records-chop, slots-used}
-use Rattle.holdings.specs.Holdings.{others, isFull}
+use Rattle.holdings.specs.Holdings.{others}
+use Rattle.sizes.specs.Modes.{isFull}
 use Rattle.upkeep.specs.laws.Stays.{as-it-is, closed}
 use Rattle.applying.specs.laws.Follows.{pick-others}
 use Rattle.applying.specs.laws.Steps.{markOf, prepared, Left}

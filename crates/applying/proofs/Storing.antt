@@ -31,7 +31,8 @@ use Rattle.records.specs.Slot.{putRecord}
 use Rattle.register.specs.Register.{slotLength, slotsMost, slotsIn, slotsOf, records, usedIn, usedPart}
 use Rattle.register.specs.Search.{holdsPan, placeOf}
 use Rattle.register.specs.laws.Register.{ordered, used-most, used-fits, used-slots, slots-used}
-use Rattle.holdings.specs.Holdings.{stored, storedAll, isFull, holdings}
+use Rattle.holdings.specs.Holdings.{stored, storedAll, holdings}
+use Rattle.sizes.specs.Modes.{isFull}
 use Rattle.holdings.specs.AtOnce.{placesIn}
 use Rattle.holdings.specs.laws.Storing.{stored-held, stored-new, all-grows, new-others}
 use Rattle.upkeep.specs.Holds.{Holds}

@@ -3,7 +3,8 @@ use mathlib.Core.List.{List}
 use Prim.Native.Nat.{ℕ}
 use Rattle.upkeep.specs.Holds.{Holds}
 use Rattle.register.specs.Register.{slotsIn, records}
-use Rattle.holdings.specs.Holdings.{takenIn, holdings}
+use Rattle.holdings.specs.Holdings.{holdings}
+use Rattle.taken.specs.Taken.{takenIn}
 
 -- the register after it holds what follows
 abbrev pub Apply : ℕ → List ℕ → List ℕ → List ℕ → List ℕ → List ℕ → List ℕ → Type 0

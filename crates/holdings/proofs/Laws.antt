@@ -1,68 +1,93 @@
 -- What the functions of this crate cite. Assumes nothing.
-use mathlib.Core.Path.{_≡_, refl, sym, _∙_}
-use mathlib.Core.Bool.{Bool, true, false, _&&_}
+use mathlib.Core.Path.{_≡_, refl, sym, ap, _∙_}
+use mathlib.Core.Bool.{Bool, true, false, not, cond, _&&_}
 use mathlib.Core.List.{List}
 use Prim.Native.Nat.{ℕ, _+_, _-_, _≤_, _<_}
 use native.Mathlib.Omega.{arith}
-use lib.Dec.{ltb, leb}
-use lib.ListN.{length}
-use borrow.Author.Tests.{lt-ltb, le-ltb, le-leb, lt-leb, eq-eqb, ne-eqb}
+use lib.Dec.{ltb}
+use lib.ListN.{length, getD}
+use borrow.Author.Tests.{lt-ltb, le-ltb, eq-eqb, ne-eqb}
 use Rattle.theory.specs.Walk.{some}
 use Rattle.theory.specs.Count.{bump}
 use Rattle.theory.specs.Keep.{sift}
 use Rattle.theory.specs.laws.Keep.{sift-counts}
-use Rattle.theory.specs.Parts.{chop}
+use Rattle.theory.specs.Parts.{partAt}
 use Rattle.theory.specs.laws.Parts.{length-chop}
-use Rattle.theory.specs.Pick.{good, pick}
+use Rattle.theory.specs.Pick.{good}
 use Rattle.theory.specs.laws.Pick.{good-no}
 use Rattle.theory.specs.Tally.{tally}
 use Rattle.theory.specs.laws.Tally.{tally-pick, tallies}
 use Rattle.theory.specs.laws.Place.{place-some}
+use Rattle.theory.specs.laws.Among.{CountAmong, count-among-start, count-among-turn, count-among-end}
 use Rattle.columns.specs.Columns.{panOf}
-use Rattle.register.specs.Register.{slotLength, slotsMost, slotsIn, slotsOf, records, usedIn, usedPart}
+use Rattle.sizes.specs.Sizes.{full, slotLength, slotsMost}
+use Rattle.sizes.specs.Modes.{isFull}
+use Rattle.register.specs.Register.{slotsIn, slotsOf, records, usedIn, usedPart}
 use Rattle.register.specs.laws.Register.{used-slots, slots-used}
 use Rattle.register.specs.Search.{holdsPan, placeOf, ofActor, countOf}
-use Rattle.holdings.specs.Holdings.{others, isFull}
+use Rattle.taken.specs.Taken.{takenIn}
+use Rattle.holdings.specs.Holdings.{others}
 use Rattle.holdings.specs.Room.{isNew, usedAfter}
-use Rattle.holdings.specs.AtOnce.{atOnce}
+use Rattle.holdings.specs.Places.{placesIn, placesAfter}
+use Rattle.holdings.specs.laws.Places.{Told, places-tell, length-places, CountsNew}
+
+-- ---- one line
+
+pub line-rejected : (v : ℕ) (t : Bool) → (v ≡ 0 → ⊥) → 0 ≡ bump (good v && t) 0
+unfolding bump
+line-rejected v t h = rw (good-no v h)
+
+pub line-held : (v i n : ℕ) → i < n → 0 ≡ bump (good v && not (ltb i n)) 0
+unfolding bump
+line-held v i n h = rw (lt-ltb i n h) (neither (good v))
+  where
+    neither : (g : Bool) → 0 ≡ bump (g && false) 0
+    neither true = refl
+    neither false = refl
+
+pub line-new : (v i n : ℕ) → v ≡ 0 → n ≤ i → 1 ≡ bump (good v && not (ltb i n)) 0
+unfolding bump good
+line-new v i n z h = rw (z, le-ltb i n h)
+
+-- ---- line after line: k of the first i are new, whatever records and lines the places tell of
+
+abbrev pub Counting : ℕ → List ℕ → List ℕ → ℕ → ℕ → Type 0
+Counting slots vs found i k =
+    (R : List (List ℕ)) (width : ℕ) (lines : List ℕ) → length R ≡ slots → Told R width lines vs found → CountAmong (isNew R) width (length vs) vs lines i k
+
+module _ (slots : ℕ) (vs found : List ℕ) where
+  pub counting-start : Counting slots vs found 0 0
+  counting-start R width lines e t = count-among-start (isNew R) width (length vs) vs lines
+
+  module _ (i k : ℕ) (c : Counting slots vs found i k) where
+    -- m is what the line counts for
+    pub counting-turn : i < length vs → (m : ℕ) → m ≡ bump (good (getD vs i 0) && not (ltb (getD found i 0) slots)) 0 → Counting slots vs found (i + 1) (k + m)
+    unfolding placeOf
+    counting-turn h m e R width lines n t =
+        count-among-turn (isNew R) width (length vs) vs lines i k (c R width lines n t) h h (partAt width i lines) refl m (e ∙ rw (same (good (getD vs i 0)) refl))
+      where
+        held : good (getD vs i 0) ≡ true → not (ltb (getD found i 0) slots) ≡ isNew R (partAt width i lines)
+        held g = rw (place-some (holdsPan (panOf (partAt width i lines))) R, n, t .told i h g)
+
+        same : (g : Bool) → good (getD vs i 0) ≡ g → (g && not (ltb (getD found i 0) slots)) ≡ (g && isNew R (partAt width i lines))
+        same true g = held g
+        same false g = refl
+
+    pub counting-end : length vs ≤ i → CountsNew slots vs found k
+    counting-end h R width lines n t = count-among-end (isNew R) width (length vs) vs lines i k (c R width lines n t) h
+
+-- ---- all of them
 
 pub length-slots : (b : List ℕ) → length (slotsOf b) ≡ slotsIn b
 unfolding slotsOf
 length-slots b = length-chop slotLength (slotsIn b) b
 
--- i is the place of the PAN of the line l
-module _ (b l : List ℕ) (i : ℕ) (f : i ≡ placeOf (panOf l) (slotsOf b)) where
-  held-is : some (holdsPan (panOf l)) (slotsOf b) ≡ ltb i (slotsIn b)
-  unfolding placeOf
-  held-is = place-some (holdsPan (panOf l)) (slotsOf b) ∙ rw (length-slots b, f)
-
-  -- v is the line's verdict
-  pub counts-held : (v : ℕ) → i < slotsIn b → 0 ≡ bump (good v && isNew (slotsOf b) l) 0
-  unfolding bump
-  counts-held v h = rw (held-is, lt-ltb i (slotsIn b) h) (neither (good v))
-    where
-      neither : (g : Bool) → 0 ≡ bump (g && false) 0
-      neither true = refl
-      neither false = refl
-
-  pub counts-new : (v : ℕ) → v ≡ 0 → slotsIn b ≤ i → 1 ≡ bump (good v && isNew (slotsOf b) l) 0
-  unfolding bump good
-  counts-new v z h = rw (z, held-is, le-ltb i (slotsIn b) h)
-
-pub counts-good : (v : ℕ) → v ≡ 0 → good v ≡ true
-unfolding good
-counts-good v z = rw z
-
-pub counts-rejected : (v : ℕ) (n : Bool) → (v ≡ 0 → ⊥) → 0 ≡ bump (good v && n) 0
-unfolding bump
-counts-rejected v n h = rw (good-no v h)
-
 -- the others are those that are not his
-pub others-count : (who : List ℕ) (R : List (List ℕ)) → length (others who R) ≡ length R - countOf who R
+others-count : (who : List ℕ) (R : List (List ℕ)) → length (others who R) ≡ length R - countOf who R
 unfolding others countOf
 others-count who R = omega (arith, sift-counts (ofActor who) R)
 
-pub count-most : (who : List ℕ) (R : List (List ℕ)) → countOf who R ≤ length R
+count-most : (who : List ℕ) (R : List (List ℕ)) → countOf who R ≤ length R
 unfolding countOf
 count-most who R = omega (arith, sift-counts (ofActor who) R)
 
@@ -79,32 +104,30 @@ module _ (b held : List ℕ) (e : held ≡ usedPart b) where
 
   module _ (who : List ℕ) (k : ℕ) (f : k ≡ countOf who (slotsOf held)) where
     pub his-most : k ≤ slotsIn held
-    his-most = omega (arith, count-most who (slotsOf held), length-slots held)
+    his-most = omega (arith, f, count-most who (slotsOf held), length-slots held)
 
     -- t lines were taken
-    pub full-used : (mode : ℕ) → mode ≡ 2 → (vs lines : List ℕ) (t : ℕ) → t ≡ tally good vs
-        → slotsIn held - k + t ≡ usedAfter mode who (records b) (pick good vs (chop 128 (length vs) lines))
+    pub full-used : (mode : ℕ) → mode ≡ full → (width : ℕ) (vs lines : List ℕ) (t : ℕ) → t ≡ tally good vs
+        → slotsIn held - k + t ≡ usedAfter mode who (records b) (takenIn width vs lines)
     unfolding usedAfter isFull
-    full-used mode m vs lines t g =
-        sym (rw (eq-eqb mode 2 m, others-count who (records b), tally-pick good vs (chop 128 (length vs) lines) (sym (length-chop 128 (length vs) lines)), ← g, ← held-slots, ← f, length-slots held))
+    full-used mode m width vs lines t g =
+        sym (rw (eq-eqb mode full m, others-count who (records b), tally-pick good vs _ (sym (length-chop width (length vs) lines)), ← g, ← held-slots, ← f, length-slots held))
 
-  -- k lines are new
-  pub incremental-used : (mode : ℕ) → (mode ≡ 2 → ⊥) → (who vs lines : List ℕ) (k : ℕ)
-      → k ≡ length (sift (isNew (slotsOf held)) (pick good vs (chop 128 (length vs) lines)))
-      → slotsIn held + k ≡ usedAfter mode who (records b) (pick good vs (chop 128 (length vs) lines))
-  unfolding usedAfter isFull
-  incremental-used mode m who vs lines k g = sym (rw (ne-eqb mode 2 m, ← held-slots, ← g, length-slots held))
+  module _ (mode : ℕ) (n : mode ≡ full → ⊥) (width : ℕ) (lines vs found : List ℕ) (g : found ≡ placesIn (slotsOf held) width lines vs) where
+    -- k lines are new
+    pub incremental-used : (who : List ℕ) (k : ℕ) → CountsNew (slotsIn held) vs found k → slotsIn held + k ≡ usedAfter mode who (records b) (takenIn width vs lines)
+    unfolding usedAfter isFull
+    incremental-used who k c =
+        let new = c (slotsOf held) width lines (length-slots held) (places-tell (slotsOf held) width lines vs found g) in
+        sym (rw (ne-eqb mode full n, ← held-slots, ← new, length-slots held))
 
--- ---- many lines at once
+    pub incremental-places : (before : List ℕ) → found ≡ placesAfter mode (records b) width lines vs before
+    unfolding placesAfter isFull
+    incremental-places before = g ∙ rw (ne-eqb mode full n, held-slots)
 
-pub none-at-once : (slots lines : ℕ) → leb slots slotsMost ≡ false → 0 ≡ atOnce slots lines
-unfolding atOnce
-none-at-once slots lines h = rw h
+    pub as-many : length found ≡ length vs
+    as-many = length-places (slotsOf held) width lines vs found g
 
-pub all-at-once : (slots lines : ℕ) → leb slots slotsMost ≡ true → lines ≤ slotsMost → lines ≡ atOnce slots lines
-unfolding atOnce
-all-at-once slots lines h l = rw (h, le-leb lines slotsMost l)
-
-pub most-at-once : (slots lines : ℕ) → leb slots slotsMost ≡ true → slotsMost < lines → slotsMost ≡ atOnce slots lines
-unfolding atOnce
-most-at-once slots lines h l = rw (h, lt-leb lines slotsMost l)
+pub full-places : (mode : ℕ) → mode ≡ full → (R : List (List ℕ)) (width : ℕ) (lines vs found : List ℕ) → found ≡ placesAfter mode R width lines vs found
+unfolding placesAfter isFull
+full-places mode m R width lines vs found = rw (eq-eqb mode full m)

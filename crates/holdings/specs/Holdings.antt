@@ -3,19 +3,10 @@
 use Prim.Native.Nat.{ℕ}
 use mathlib.Core.Bool.{Bool, true, false, not, cond}
 use mathlib.Core.List.{List, [], _∷_, _++_, map}
-use lib.Dec.{eqb}
-use lib.ListN.{length}
-use Rattle.theory.specs.Parts.{chop}
 use Rattle.theory.specs.Keep.{sift}
-use Rattle.theory.specs.Pick.{good, pick}
 use Rattle.columns.specs.Columns.{panOf}
-use Rattle.lines.specs.End.{recordOf}
-use Rattle.sizes.specs.Sizes.{lineLength}
+use Rattle.sizes.specs.Modes.{isFull}
 use Rattle.register.specs.Search.{holdsPan, ofActor}
-
--- the lines that were taken: those whose verdict is 0
-abbrev pub takenIn : List ℕ → List ℕ → List (List ℕ)
-takenIn vs lines = pick good vs (chop lineLength (length vs) lines)
 
 -- x in place of r where the test holds, else r, and what is made of those behind it
 unfoldable pub storedOn : Bool → List ℕ → List ℕ → List (List ℕ) → List (List ℕ) → List (List ℕ)
@@ -40,11 +31,6 @@ others who R = sift (λ r. not (ofActor who r)) R
 unfoldable pub replacedAll : List ℕ → List (List ℕ) → List (List ℕ) → List (List ℕ)
 replacedAll who R xs = others who R ++ xs
 
--- 1 incremental, 2 full
-unfoldable pub isFull : ℕ → Bool
-isFull mode = eqb mode 2
-
--- the records after the lines of this sender, received at `reception`, were taken
-unfoldable pub holdings : ℕ → List ℕ → List ℕ → List (List ℕ) → List (List ℕ) → List (List ℕ)
-holdings mode who reception R ls =
-    cond (isFull mode) (replacedAll who R (map (recordOf reception) ls)) (storedAll R (map (recordOf reception) ls))
+-- the records after the lines of this sender were taken, of which `make` makes the records
+unfoldable pub holdings : ℕ → List ℕ → (List ℕ → List ℕ) → List (List ℕ) → List (List ℕ) → List (List ℕ)
+holdings mode who make R ls = cond (isFull mode) (replacedAll who R (map make ls)) (storedAll R (map make ls))

@@ -1,5 +1,5 @@
 pub mod Holdings
 pub mod Room
-pub mod AtOnce
+pub mod Places
 pub mod Promises
 pub mod laws

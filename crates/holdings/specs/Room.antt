@@ -8,7 +8,8 @@ use Rattle.theory.specs.Keep.{sift}
 use Rattle.theory.specs.Walk.{some}
 use Rattle.columns.specs.Columns.{panOf}
 use Rattle.register.specs.Search.{holdsPan}
-use Rattle.holdings.specs.Holdings.{others, isFull}
+use Rattle.holdings.specs.Holdings.{others}
+use Rattle.sizes.specs.Modes.{isFull}
 
 -- is the PAN of x new to R
 abbrev pub isNew : List (List ℕ) → List ℕ → Bool

@@ -1,4 +1,4 @@
 pub mod Storing
 pub mod Room
-pub mod AtOnce
+pub mod Places
 pub mod Outcomes

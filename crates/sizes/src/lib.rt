@@ -25,6 +25,9 @@ pub const SLOT_END: usize = 128;
 
 pub const SLOTS_MOST: usize = PARTS_MOST;
 
+// No slot has this place.
+pub const NO_PLACE: u16 = 8192;
+
 // The issuer rows.
 pub const ROW: usize = 24;
 

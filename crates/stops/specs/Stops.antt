@@ -12,7 +12,7 @@ use Rattle.frames.specs.Frames.{footerHolds, framesHold}
 use Rattle.header.specs.Header.{sender, headerHolds}
 use Rattle.claims.specs.Claims.{versionHolds, incrementalOnly, receiverHolds, countHolds}
 use Rattle.register.specs.Register.{inOrder}
-use Rattle.holdings.specs.Holdings.{isFull}
+use Rattle.sizes.specs.Modes.{isFull}
 
 -- 1 or 2
 unfoldable pub modeHolds : ℕ → Bool

@@ -42,7 +42,8 @@ use Rattle.hgc.specs.Confirmation.{zeros, outcome, names, counts, head, answer,
 use Rattle.hgc.specs.laws.Confirmation.{said}
 use Rattle.verdicts.specs.Verdict.{ownRules, verdictRules, verdict, verdictsOf, fileVerdicts, taken}
 use Rattle.verdicts.specs.laws.Verdict.{rejected}
-use Rattle.holdings.specs.Holdings.{storedOn, stored, storedAll, others, replacedAll, isFull, holdings}
+use Rattle.holdings.specs.Holdings.{storedOn, stored, storedAll, others, replacedAll, holdings}
+use Rattle.sizes.specs.Modes.{isFull}
 use Rattle.holdings.specs.Room.{usedAfter}
 use Rattle.stops.specs.Stops.{modeHolds, notFull, addressed, formStops, formStop}
 use Rattle.theory.specs.Stopped.{unlessStopped}

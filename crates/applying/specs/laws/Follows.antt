@@ -23,7 +23,8 @@ use Rattle.lines.specs.Rules.{recordHolds}
 use Rattle.lines.specs.End.{recordOf}
 use Rattle.register.specs.Register.{slotLength, slotsIn, records, inOrder}
 use Rattle.register.specs.Search.{holdsPan, placeOf, ofActor}
-use Rattle.holdings.specs.Holdings.{stored, storedAll, others, holdings, isFull}
+use Rattle.holdings.specs.Holdings.{stored, storedAll, others, holdings}
+use Rattle.sizes.specs.Modes.{isFull}
 use Rattle.holdings.specs.laws.Storing.{stored-held, stored-new, all-grows}
 use Rattle.upkeep.specs.Holds.{Holds}
 use Rattle.upkeep.specs.laws.Stays.{written-length, written-used, as-it-is, replaced, added, closed}

@@ -12,7 +12,8 @@ use Rattle.theory.specs.Walk.{some}
 use Rattle.columns.specs.Columns.{panOf}
 use Rattle.lines.specs.End.{recordOf}
 use Rattle.register.specs.Search.{holdsPan, ofActor, holdsForeign, heldByAnother}
-use Rattle.holdings.specs.Holdings.{storedOn, stored, storedAll, others, replacedAll, isFull, holdings}
+use Rattle.holdings.specs.Holdings.{storedOn, stored, storedAll, others, replacedAll, holdings}
+use Rattle.sizes.specs.Modes.{isFull}
 use Rattle.holdings.specs.laws.Storing.{stored-grows, free-stored, others-all, others-replaced}
 use Rattle.applying.specs.Fit.{Fit}
 use Rattle.applying.specs.laws.Taken.{record-pan, record-actor, each-record}

@@ -23,7 +23,8 @@ use Rattle.columns.specs.Columns.{panOf}
 use Rattle.sizes.specs.Sizes.{lineLength}
 use Rattle.register.specs.Register.{slotsMost}
 use Rattle.register.specs.Search.{holdsPan, placeOf}
-use Rattle.holdings.specs.Holdings.{stored, isFull}
+use Rattle.holdings.specs.Holdings.{stored}
+use Rattle.sizes.specs.Modes.{isFull}
 use Rattle.holdings.specs.laws.Storing.{stored-grows, held-other, place-other, apart}
 use Rattle.holdings.specs.AtOnce.{placesIn}
 use Rattle.holdings.specs.laws.AtOnce.{Told, places-tell}

@@ -12,7 +12,9 @@ use Rattle.lines.specs.Rules.{recordHolds}
 use Rattle.lines.specs.End.{recordOf}
 use Rattle.register.specs.Register.{slotsIn, records, usedIn, inOrder}
 use Rattle.register.specs.Search.{ofActor}
-use Rattle.holdings.specs.Holdings.{takenIn, stored, storedAll, others, isFull}
+use Rattle.holdings.specs.Holdings.{stored, storedAll, others}
+use Rattle.taken.specs.Taken.{takenIn}
+use Rattle.sizes.specs.Modes.{isFull}
 use Rattle.upkeep.specs.Holds.{Holds}
 
 -- 1 marks a record of this actor

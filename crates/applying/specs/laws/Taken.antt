@@ -16,7 +16,8 @@ use Rattle.lines.specs.End.{recordOf}
 use Rattle.records.specs.laws.Written.{record-front}
 use Rattle.records.specs.laws.Holds.{record-long}
 use Rattle.register.specs.Search.{holdsPan}
-use Rattle.holdings.specs.Holdings.{storedAll, others, replacedAll, isFull, holdings}
+use Rattle.holdings.specs.Holdings.{storedAll, others, replacedAll, holdings}
+use Rattle.sizes.specs.Modes.{isFull}
 use Rattle.holdings.specs.laws.Storing.{all-new, new-others}
 use Rattle.applying.specs.Fit.{Fit}
 use Rattle.applying.specs.laws.Steps.{prepared}

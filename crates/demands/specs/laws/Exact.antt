@@ -21,7 +21,8 @@ use Rattle.register.specs.Search.{ofActor}
 use Rattle.register.specs.laws.Register.{records-chop}
 use Rattle.verdicts.specs.Verdict.{fileVerdicts, taken}
 use Rattle.hgc.specs.Confirmation.{confirmation}
-use Rattle.holdings.specs.Holdings.{others, isFull, holdings}
+use Rattle.holdings.specs.Holdings.{others, holdings}
+use Rattle.sizes.specs.Modes.{isFull}
 use Rattle.holdings.specs.laws.Storing.{all-grows}
 use Rattle.upkeep.specs.Holds.{Holds}
 use Rattle.importer.specs.declared.Imported.{Imported}

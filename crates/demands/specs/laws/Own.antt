@@ -17,7 +17,8 @@ use Rattle.theory.specs.laws.Keep.{sift-append, sift-length, sift-passes, sift-
 use Rattle.columns.specs.Columns.{actor, panOf}
 use Rattle.lines.specs.End.{recordOf}
 use Rattle.register.specs.Search.{holdsPan, ofActor, holdsForeign, heldByAnother}
-use Rattle.holdings.specs.Holdings.{storedOn, stored, storedAll, others, replacedAll, isFull, holdings}
+use Rattle.holdings.specs.Holdings.{storedOn, stored, storedAll, others, replacedAll, holdings}
+use Rattle.sizes.specs.Modes.{isFull}
 use Rattle.holdings.specs.laws.Storing.{own-free, free-stored}
 use Rattle.applying.specs.Fit.{Fit}
 use Rattle.applying.specs.laws.Others.{each-own, each-free}

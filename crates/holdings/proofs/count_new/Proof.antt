@@ -1,31 +1,48 @@
--- Assumes nothing.
+-- The invariant: k of the first i lines count. Assumes nothing.
+use Prim.Native.Nat.{_≤_, _-_}
 use borrow.Author.Needs.{needs}
-use lib.Seq.{length-take-le}
-use mathlib.Core.Path.{sym}
-use Rattle.holdings.specs.laws.AtOnce.{at-once}
+use lib.ListN.{length}
+use native.Mathlib.Omega.{arith}
+use Rattle.holdings.proofs.Laws.{Counting, counting-start, counting-turn, counting-end}
 use Rattle.holdings.proofs.count_new.Statement.{statement}
 use Rattle.holdings.proofs.count_new.Tie as tie
 
-array-borrow-prefix-found : tie.Need-array-borrow-prefix-found
-array-borrow-prefix-found c = at-once _ _ _ (c .at-once .ensures) .most
+abbrev Inv-loop : tie.InvT-loop
+Inv-loop slots verdicts found k₀ i₀ k i = (k ≤ i) × ((i ≤ length verdicts) × Counting slots verdicts found i k)
 
-slice-aggregate-count-placed : tie.Need-slice-aggregate-count-placed
-slice-aggregate-count-placed c = sym (length-take-le _ _ (at-once _ _ _ (c .before .at-once .ensures) .most))
+abbrev μ-loop : tie.MeasureT-loop
+μ-loop slots verdicts found k₀ i₀ k i = length verdicts - i
 
-count-placed-requires : tie.Need-count-placed-requires
-count-placed-requires c κs =
-    let k = at-once _ _ _ (c .before .at-once .ensures) in
-    rw (length-take-le _ _ (k .most)) (c .before .before .before .before .before .pre, (k .within, k .few))
+loop-holds : tie.Need-loop-holds Inv-loop μ-loop
+loop-holds c = (omega arith, (omega arith, counting-start _ _ _))
 
-returns : tie.Need-returns
-returns c = c .before .count-placed .ensures
+place-at-requires : tie.Need-place-at-requires Inv-loop μ-loop
+place-at-requires c κs = omega (arith, c .before .before .before .before .before .pre, c .before .loop-test .taken)
+
+add-k : tie.Need-add-k Inv-loop μ-loop
+add-k c = let m = c .count-line .ensures .1 in search needs
+
+loop-again : tie.Need-loop-again Inv-loop μ-loop
+loop-again c =
+    let x = c .before .before .before .before .loop in
+    let t = c .before .before .before .loop-test .taken in
+    (omega (arith, x .inv .0, c .count-line .ensures .1), (omega (arith, t), counting-turn _ _ _ _ _ (x .inv .1 .1) t _ (rw (c .before .place-at .ensures) at (c .count-line .ensures .0))))
+
+returns : tie.Need-returns Inv-loop μ-loop
+returns c = (counting-end _ _ _ _ _ (c .before .loop .inv .1 .1) (c .loop-test .left), omega (arith, c .before .loop .inv .0, c .before .loop .inv .1 .0))
 
 pub count-new-spec : {M : Type 1} → statement M
 count-new-spec =
     tie.close
     (tie.spec
+    Inv-loop
+    μ-loop
+    loop-holds
+    (λ c. search needs)
+    place-at-requires
     (λ c κs. search needs)
-    array-borrow-prefix-found
-    slice-aggregate-count-placed
-    count-placed-requires
+    add-k
+    (λ c. search needs)
+    (λ c. search needs)
+    loop-again
     returns)

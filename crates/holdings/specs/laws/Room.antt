@@ -9,40 +9,33 @@ use Rattle.theory.specs.Keep.{sift}
 use Rattle.theory.specs.laws.Keep.{length-onto}
 use Rattle.theory.specs.Distinct.{distinct}
 use Rattle.columns.specs.Columns.{panOf}
-use Rattle.lines.specs.End.{recordOf}
-use Rattle.register.specs.Register.{slotsOf}
-use Rattle.holdings.specs.Holdings.{takenIn, storedAll, others, replacedAll, isFull, holdings}
+use Rattle.holdings.specs.Holdings.{storedAll, others, replacedAll, holdings}
+use Rattle.sizes.specs.Modes.{isFull}
 use Rattle.holdings.specs.Room.{isNew, usedAfter}
 use Rattle.holdings.specs.laws.Storing.{length-all}
 
--- r counts the lines taken that are new to the slots
-abbrev pub CountsNew : List ℕ → List ℕ → List ℕ → ℕ → Type 0
-CountsNew held lines vs r =
-    (r ≡ length (sift (isNew (slotsOf held)) (takenIn vs lines)))
-    × (r ≤ length vs)
-
-module _ (reception : List ℕ) where
-  record-pans : {ls : List (List ℕ)} → Each (λ l. panOf (recordOf reception l) ≡ panOf l) ls → map panOf (map (recordOf reception) ls) ≡ map panOf ls
+module _ (make : List ℕ → List ℕ) where
+  record-pans : {ls : List (List ℕ)} → Each (λ l. panOf (make l) ≡ panOf l) ls → map panOf (map make ls) ≡ map panOf ls
   record-pans none = refl
   record-pans (more h hs) = ap₂ _∷_ h (record-pans hs)
 
-  new-records : (R : List (List ℕ)) {ls : List (List ℕ)} → Each (λ l. panOf (recordOf reception l) ≡ panOf l) ls
-      → length (sift (isNew R) (map (recordOf reception) ls)) ≡ length (sift (isNew R) ls)
+  new-records : (R : List (List ℕ)) {ls : List (List ℕ)} → Each (λ l. panOf (make l) ≡ panOf l) ls
+      → length (sift (isNew R) (map make ls)) ≡ length (sift (isNew R) ls)
   unfolding sift
   new-records R none = refl
   new-records R (more {x = l} {xs = ls} h hs) =
-      length-onto (isNew R (recordOf reception l)) (recordOf reception l) (sift (isNew R) (map (recordOf reception) ls))
+      length-onto (isNew R (make l)) (make l) (sift (isNew R) (map make ls))
       ∙ rw (h, new-records R hs) (sym (length-onto (isNew R l) l (sift (isNew R) ls)))
 
   -- it is the number of records that follow
-  pub used-after : (mode : ℕ) (who : List ℕ) (R ls : List (List ℕ)) → Each (λ l. panOf (recordOf reception l) ≡ panOf l) ls → distinct (map panOf ls) ≡ true
-      → usedAfter mode who R ls ≡ length (holdings mode who reception R ls)
+  pub used-after : (mode : ℕ) (who : List ℕ) (R ls : List (List ℕ)) → Each (λ l. panOf (make l) ≡ panOf l) ls → distinct (map panOf ls) ≡ true
+      → usedAfter mode who R ls ≡ length (holdings mode who make R ls)
   unfolding usedAfter holdings replacedAll
   used-after mode who R ls p d = go (isFull mode)
     where
       xs : List (List ℕ)
-      xs = map (recordOf reception) ls
+      xs = map make ls
 
       go : (b : Bool) → cond b (length (others who R) + length ls) (length R + length (sift (isNew R) ls)) ≡ length (cond b (others who R ++ xs) (storedAll R xs))
-      go true = sym (length-append (others who R) xs ∙ rw (length-map ls (recordOf reception)))
+      go true = sym (length-append (others who R) xs ∙ rw (length-map ls make))
       go false = sym (length-all xs R (rw (record-pans p) d) ∙ rw (new-records R p))

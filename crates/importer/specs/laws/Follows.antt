@@ -16,7 +16,8 @@ use Rattle.register.specs.Register.{slotsIn, records}
 use Rattle.register.specs.Search.{ofActor}
 use Rattle.verdicts.specs.Verdict.{taken}
 use Rattle.verdicts.specs.laws.Verdict.{taken-rejected}
-use Rattle.holdings.specs.Holdings.{others, isFull}
+use Rattle.holdings.specs.Holdings.{others}
+use Rattle.sizes.specs.Modes.{isFull}
 use Rattle.upkeep.specs.Holds.{Holds}
 use Rattle.applying.specs.Fit.{Fit}
 use Rattle.applying.specs.laws.Follows.{follows}

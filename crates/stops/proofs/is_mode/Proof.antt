@@ -1,7 +1,7 @@
 -- Assumes nothing.
 use mathlib.Core.Path.{refl}
 use Rattle.stops.specs.Stops.{modeHolds}
-use Rattle.holdings.specs.Holdings.{isFull}
+use Rattle.sizes.specs.Modes.{isFull}
 use Rattle.stops.proofs.is_mode.Statement.{statement}
 use Rattle.stops.proofs.is_mode.Tie as tie
 

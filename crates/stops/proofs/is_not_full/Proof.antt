@@ -1,6 +1,6 @@
 -- Assumes nothing.
 use Rattle.stops.specs.Stops.{notFull}
-use Rattle.holdings.specs.Holdings.{isFull}
+use Rattle.sizes.specs.Modes.{isFull}
 use borrow.Author.Needs.{needs}
 use Rattle.stops.proofs.is_not_full.Statement.{statement}
 use Rattle.stops.proofs.is_not_full.Tie as tie
