@@ -4,12 +4,14 @@ use native.Mathlib.Omega.{arith}
 use borrow.Author.Needs.{needs}
 use lib.ListN.{length}
 use Rattle.theory.specs.laws.Parts.{part-fits}
-use Rattle.applying.proofs.Removing.{Marking, marking-start, marking-turn, marking-end}
-use Rattle.applying.proofs.mark.Statement.{statement}
-use Rattle.applying.proofs.mark.Tie as tie
+use Rattle.sizes.specs.Sizes.{slotLength}
+use Rattle.register.specs.Search.{ofActor}
+use Rattle.removing.proofs.Removing.{Marking, marking-start, marking-turn, marking-end}
+use Rattle.removing.proofs.mark.Statement.{statement}
+use Rattle.removing.proofs.mark.Tie as tie
 
 abbrev Inv-loop : tie.InvT-loop
-Inv-loop register who marks₀ i₀ marks i = Marking who register (length marks₀) i marks
+Inv-loop register who marks₀ i₀ marks i = Marking (ofActor who) register (length marks₀) i marks
 
 abbrev μ-loop : tie.MeasureT-loop
 μ-loop register who marks₀ i₀ marks i = length marks₀ - i
@@ -18,7 +20,7 @@ loop-holds : tie.Need-loop-holds Inv-loop μ-loop
 loop-holds c = marking-start _ _ _
 
 part-requires : tie.Need-part-requires Inv-loop μ-loop
-part-requires c κs = part-fits 128 _ (c .before .loop .i) _ (c .before .before .before .before .before .pre) (omega (arith, c .before .loop .inv .size, c .loop-test .taken))
+part-requires c κs = part-fits slotLength _ (c .before .loop .i) _ (c .before .before .before .before .before .pre) (omega (arith, c .before .loop .inv .size, c .loop-test .taken))
 
 loop-less : tie.Need-loop-less Inv-loop μ-loop
 loop-less c = omega (arith, c .before .before .before .loop .inv .size, c .before .before .loop-test .taken)
