@@ -1,12 +1,13 @@
 -- What the public function of this crate promises. Assumes nothing.
 use mathlib.Core.List.{List}
 use Prim.Native.Nat.{ℕ}
-use Rattle.upkeep.specs.Holds.{Holds}
+use Rattle.lines.specs.End.{recordOf}
 use Rattle.register.specs.Register.{slotsIn, records}
-use Rattle.holdings.specs.Holdings.{holdings}
 use Rattle.taken.specs.Taken.{takenIn}
+use Rattle.holdings.specs.Holdings.{holdings}
+use Rattle.upkeep.specs.Holds.{Holds}
 
 -- the register after it holds what follows
-abbrev pub Apply : ℕ → List ℕ → List ℕ → List ℕ → List ℕ → List ℕ → List ℕ → Type 0
-Apply mode b who reception lines vs after =
-    Holds (slotsIn b) (holdings mode who reception (records b) (takenIn vs lines)) after
+abbrev pub Apply : ℕ → List ℕ → List ℕ → List ℕ → List ℕ → ℕ → List ℕ → List ℕ → Type 0
+Apply mode b who reception lines width vs after =
+    Holds (slotsIn b) (holdings mode who (recordOf reception) (records b) (takenIn width vs lines)) after

@@ -1,6 +1,4 @@
-pub mod Steps
-pub mod Standing
-pub mod Taken
+pub mod Prepared
 pub mod Others
 pub mod Follows
 pub mod Outcomes

@@ -1,2 +1,3 @@
 pub mod Holds
+pub mod Makes
 pub mod laws

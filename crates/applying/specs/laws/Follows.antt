@@ -9,42 +9,39 @@ use borrow.Author.Tests.{ltb-true}
 use Rattle.theory.specs.laws.Same.{eqs-true}
 use Rattle.theory.specs.Each.{Each, none, more}
 use Rattle.theory.specs.Walk.{some}
-use Rattle.theory.specs.Pick.{good, pick}
-use Rattle.theory.specs.Count.{bump}
-use Rattle.theory.specs.Keep.{onto, sift}
+use Rattle.theory.specs.Keep.{sift}
 use Rattle.theory.specs.Place.{place}
 use Rattle.theory.specs.laws.Place.{place-hit, place-some}
 use Rattle.theory.specs.laws.Scan.{some-key}
 use Rattle.theory.specs.Join.{flat}
 use Rattle.theory.specs.Pad.{pad}
-use Rattle.times.specs.Time.{realTime}
 use Rattle.columns.specs.Columns.{panOf}
-use Rattle.lines.specs.Rules.{recordHolds}
-use Rattle.lines.specs.End.{recordOf}
-use Rattle.register.specs.Register.{slotLength, slotsIn, records, inOrder}
+use Rattle.sizes.specs.Sizes.{slotLength}
+use Rattle.register.specs.Register.{slotsIn, records, inOrder}
 use Rattle.register.specs.Search.{holdsPan, placeOf, ofActor}
-use Rattle.holdings.specs.Holdings.{stored, storedAll, others, holdings}
 use Rattle.sizes.specs.Modes.{isFull}
+use Rattle.holdings.specs.Holdings.{stored, storedAll, others, holdings}
 use Rattle.holdings.specs.laws.Storing.{stored-held, stored-new, all-grows}
 use Rattle.upkeep.specs.Holds.{Holds}
-use Rattle.upkeep.specs.laws.Stays.{written-length, written-used, as-it-is, replaced, added, closed}
+use Rattle.upkeep.specs.Makes.{Makes}
+use Rattle.upkeep.specs.laws.Stays.{as-it-is, replaced, added, closed}
+use Rattle.removing.specs.laws.Marks.{markBy, pick-marks}
 use Rattle.applying.specs.Fit.{Fit}
-use Rattle.applying.specs.laws.Steps.{markOf, prepared}
-use Rattle.applying.specs.laws.Taken.{prepared-stored}
+use Rattle.applying.specs.laws.Prepared.{prepared, prepared-stored}
 
 -- the bytes that hold the records
 abbrev bytesOf : ℕ → List (List ℕ) → List ℕ
 bytesOf n R = flat (pad slotLength n R)
 
 -- what holds them is those bytes
-told : (n : ℕ) (R : List (List ℕ)) (b : List ℕ) → Holds n R b → Holds n R (bytesOf n R)
-told n R b h = rw (← h .bytes) h
+as-bytes : (n : ℕ) (R : List (List ℕ)) (b : List ℕ) → Holds n R b → Holds n R (bytesOf n R)
+as-bytes n R b h = rw (← h .bytes) h
 
-module _ (reception : List ℕ) (r : realTime reception ≡ true) (n : ℕ) where
+module _ (make : List ℕ → List ℕ) (n : ℕ) where
   -- one line stored
-  module _ (l : List ℕ) (k : recordHolds l ≡ true) (R : List (List ℕ)) (b : List ℕ) (h : Holds n R b) where
+  module _ (l : List ℕ) (k : Makes make l) (R : List (List ℕ)) (b : List ℕ) (h : Holds n R b) where
     abbrev x : List ℕ
-    x = recordOf reception l
+    x = make l
 
     held : placeOf (panOf x) R < length R → Holds n (stored x R) (bytesOf n (stored x R))
     unfolding placeOf holdsPan
@@ -52,7 +49,7 @@ module _ (reception : List ℕ) (r : realTime reception ≡ true) (n : ℕ) wher
         let i : ℕ = place (holdsPan (panOf x)) R in
         let hit : panOf x ≡ panOf (getD R i []) = sym (eqs-true _ _ (place-hit (holdsPan (panOf x)) R p)) in
         rw (stored-held x R p)
-        (told n _ _ (rw (h .many, h .held) at (replaced b (h .order) x (written-length reception l k r) (written-used reception l k r) i (rw (h .held) p) (rw (h .held) hit))))
+        (as-bytes n _ _ (rw (h .many, h .held) at (replaced b (h .order) x (k .size) (k .used) i (rw (h .held) p) (rw (h .held) hit))))
 
     new : some (holdsPan (panOf x)) R ≡ false → length (stored x R) ≤ n → Holds n (stored x R) (bytesOf n (stored x R))
     unfolding holdsPan
@@ -60,7 +57,7 @@ module _ (reception : List ℕ) (r : realTime reception ≡ true) (n : ℕ) wher
         let s : stored x R ≡ R ++ x ∷ [] = stored-new x R p in
         let g : length R < n = omega (arith, ap length s, length-append R (x ∷ [])) in
         rw s
-        (told n _ _ (rw (h .many, h .held) at (added b (h .order) x (written-length reception l k r) (written-used reception l k r) (rw (h .many, h .held) g) (rw (h .held) (sym (some-key panOf (panOf x) R) ∙ p)))))
+        (as-bytes n _ _ (rw (h .many, h .held) at (added b (h .order) x (k .size) (k .used) (rw (h .many, h .held) g) (rw (h .held) (sym (some-key panOf (panOf x) R) ∙ p)))))
 
     pub holds-stored : length (stored x R) ≤ n → Holds n (stored x R) (bytesOf n (stored x R))
     unfolding placeOf
@@ -71,40 +68,30 @@ module _ (reception : List ℕ) (r : realTime reception ≡ true) (n : ℕ) wher
         go false e = new e m
 
   -- all of them
-  pub holds-all : {ls : List (List ℕ)} → Each (λ l. recordHolds l ≡ true) ls → (R : List (List ℕ)) (b : List ℕ) → Holds n R b
-      → length (storedAll R (map (recordOf reception) ls)) ≤ n → Holds n (storedAll R (map (recordOf reception) ls)) (bytesOf n (storedAll R (map (recordOf reception) ls)))
+  pub holds-all : {ls : List (List ℕ)} → Each (Makes make) ls → (R : List (List ℕ)) (b : List ℕ) → Holds n R b
+      → length (storedAll R (map make ls)) ≤ n → Holds n (storedAll R (map make ls)) (bytesOf n (storedAll R (map make ls)))
   unfolding storedAll
-  holds-all none R b h m = told n R b h
+  holds-all none R b h m = as-bytes n R b h
   holds-all (more {x = l} {xs = ls} k ks) R b h m =
-      let S : List (List ℕ) = stored (recordOf reception l) R in
-      holds-all ks S (bytesOf n S) (holds-stored l k R b h (omega (arith, all-grows (map (recordOf reception) ls) S))) m
+      let S : List (List ℕ) = stored (make l) R in
+      holds-all ks S (bytesOf n S) (holds-stored l k R b h (omega (arith, all-grows (map make ls) S))) m
 
--- those without a mark are the others'
-pub pick-others : (who : List ℕ) (R : List (List ℕ)) → pick good (map (markOf who) R) R ≡ others who R
-unfolding pick others sift markOf bump good
-pick-others who [] = refl
-pick-others who (r ∷ R) = rw (pick-others who R) (go (ofActor who r) refl)
-  where
-    go : (s : Bool) → ofActor who r ≡ s → onto (good (markOf who r)) r (others who R) ≡ onto (not s) r (others who R)
-    go true e = rw e
-    go false e = rw e
+-- records gone, those for which a test holds
+pub holds-without : (n : ℕ) (p : List ℕ → Bool) (R : List (List ℕ)) (b : List ℕ) → Holds n R b → Holds n (sift (λ r. not (p r)) R) (bytesOf n (sift (λ r. not (p r)) R))
+holds-without n p R b h =
+    rw (← pick-marks p R) (as-bytes n _ _ (rw (h .many, h .held) at (closed b (h .order) (map (markBy p) R))))
 
--- an actor's records gone
-pub holds-others : (n : ℕ) (who : List ℕ) (R : List (List ℕ)) (b : List ℕ) → Holds n R b → Holds n (others who R) (bytesOf n (others who R))
-holds-others n who R b h =
-    rw (← pick-others who R) (told n _ _ (rw (h .many, h .held) at (closed b (h .order) (map (markOf who) R))))
-
-module _ (mode : ℕ) (who reception b : List ℕ) (ls : List (List ℕ)) (o : inOrder b ≡ true) (f : Fit mode who reception (slotsIn b) (records b) ls) where
+module _ (mode : ℕ) (who : List ℕ) (make : List ℕ → List ℕ) (b : List ℕ) (ls : List (List ℕ)) (o : inOrder b ≡ true) (f : Fit mode who make (slotsIn b) (records b) ls) where
   prepared-holds : Holds (slotsIn b) (prepared mode who (records b)) (bytesOf (slotsIn b) (prepared mode who (records b)))
-  unfolding prepared
+  unfolding prepared others
   prepared-holds = go (isFull mode)
     where
       go : (t : Bool) → Holds (slotsIn b) (cond t (others who (records b)) (records b)) (bytesOf (slotsIn b) (cond t (others who (records b)) (records b)))
-      go true = holds-others (slotsIn b) who (records b) b (as-it-is b o)
-      go false = told (slotsIn b) (records b) b (as-it-is b o)
+      go true = holds-without (slotsIn b) (ofActor who) (records b) b (as-it-is b o)
+      go false = as-bytes (slotsIn b) (records b) b (as-it-is b o)
 
   -- the register that holds what follows is in order
-  pub follows : Holds (slotsIn b) (holdings mode who reception (records b) ls) (bytesOf (slotsIn b) (holdings mode who reception (records b) ls))
+  pub follows : Holds (slotsIn b) (holdings mode who make (records b) ls) (bytesOf (slotsIn b) (holdings mode who make (records b) ls))
   follows =
-      let e : storedAll (prepared mode who (records b)) (map (recordOf reception) ls) ≡ holdings mode who reception (records b) ls = prepared-stored mode who reception (slotsIn b) (records b) ls f in
-      rw (← e) (holds-all reception (f .received) (slotsIn b) (f .lined) (prepared mode who (records b)) _ prepared-holds (rw e (f .room)))
+      let e : storedAll (prepared mode who (records b)) (map make ls) ≡ holdings mode who make (records b) ls = prepared-stored mode who make (slotsIn b) (records b) ls f in
+      rw (← e) (holds-all make (slotsIn b) (f .made) (prepared mode who (records b)) _ prepared-holds (rw e (f .room)))

@@ -10,13 +10,12 @@ use Rattle.theory.specs.Each.{Each, none, more}
 use Rattle.theory.specs.laws.Each.{each-map}
 use Rattle.theory.specs.Walk.{some}
 use Rattle.columns.specs.Columns.{panOf}
-use Rattle.lines.specs.End.{recordOf}
 use Rattle.register.specs.Search.{holdsPan, ofActor, holdsForeign, heldByAnother}
 use Rattle.holdings.specs.Holdings.{storedOn, stored, storedAll, others, replacedAll, holdings}
 use Rattle.sizes.specs.Modes.{isFull}
 use Rattle.holdings.specs.laws.Storing.{stored-grows, free-stored, others-all, others-replaced}
+use Rattle.upkeep.specs.laws.Makes.{each-made}
 use Rattle.applying.specs.Fit.{Fit}
-use Rattle.applying.specs.laws.Taken.{record-pan, record-actor, each-record}
 
 module _ (who : List ℕ) where
   -- what is stored under a PAN that no other actor holds leaves each place of another
@@ -44,19 +43,19 @@ module _ (who : List ℕ) where
       place-all xs (stored x R) ws (each-map (λ y k. free-stored who (panOf y) x R w k) hs) i (omega (arith, stored-grows x R)) (rw e o) ∙ e
 
 -- the lines fit, and are the sender's own
-module _ (mode : ℕ) (who reception : List ℕ) (slots : ℕ) (R ls : List (List ℕ)) (f : Fit mode who reception slots R ls) (own : Each (λ l. ofActor who l ≡ true) ls) where
+module _ (mode : ℕ) (who : List ℕ) (make : List ℕ → List ℕ) (slots : ℕ) (R ls : List (List ℕ)) (f : Fit mode who make slots R ls) (own : Each (λ l. ofActor who l ≡ true) ls) where
   abbrev xs : List (List ℕ)
-  xs = map (recordOf reception) ls
+  xs = map make ls
 
   pub each-own : Each (λ x. ofActor who x ≡ true) xs
   unfolding ofActor
-  each-own = each-record reception (λ l. ofActor who l ≡ true) (λ l h e. rw (record-actor reception (f .received) l h) e) ls (f .lined) own
+  each-own = each-made make (λ l. ofActor who l ≡ true) (λ l m e. rw (m .his) e) (f .made) own
 
   pub each-free : Each (λ x. heldByAnother (panOf x) who R ≡ false) xs
-  each-free = each-record reception (λ l. heldByAnother (panOf l) who R ≡ false) (λ l h e. rw (record-pan reception (f .received) l h) e) ls (f .lined) (f .free)
+  each-free = each-made make (λ l. heldByAnother (panOf l) who R ≡ false) (λ l m e. rw (m .pan) e) (f .made) (f .free)
 
   -- in either mode they are the same records, in the same order
-  pub others-stay : others who (holdings mode who reception R ls) ≡ others who R
+  pub others-stay : others who (holdings mode who make R ls) ≡ others who R
   unfolding holdings replacedAll
   others-stay = go (isFull mode)
     where
@@ -65,6 +64,6 @@ module _ (mode : ℕ) (who reception : List ℕ) (slots : ℕ) (R ls : List (Lis
       go false = others-all who xs R each-own each-free
 
   -- in mode 1 each stays in its slot
-  pub places-stay : isFull mode ≡ false → (i : ℕ) → i < length R → ofActor who (getD R i []) ≡ false → getD (holdings mode who reception R ls) i [] ≡ getD R i []
+  pub places-stay : isFull mode ≡ false → (i : ℕ) → i < length R → ofActor who (getD R i []) ≡ false → getD (holdings mode who make R ls) i [] ≡ getD R i []
   unfolding holdings
   places-stay m i l o = rw m (place-all who xs R each-own each-free i l o)

@@ -1,8 +1,8 @@
 -- Assumes nothing.
-use Rattle.applying.proofs.Storing.{one-more, as-many}
+use Rattle.storing.proofs.Storing.{one-more, as-many}
 use borrow.Author.Needs.{needs}
-use Rattle.applying.proofs.next_used.Statement.{statement}
-use Rattle.applying.proofs.next_used.Tie as tie
+use Rattle.storing.proofs.next_used.Statement.{statement}
+use Rattle.storing.proofs.next_used.Tie as tie
 
 returns : tie.Need-returns
 returns c = one-more _ _ (c .if1 .taken)

@@ -1,7 +1,7 @@
 -- Assumes nothing.
 use borrow.Author.Tests.{le-ltb, lt-ltb}
-use Rattle.applying.proofs.place_or_next.Statement.{statement}
-use Rattle.applying.proofs.place_or_next.Tie as tie
+use Rattle.storing.proofs.place_or_next.Statement.{statement}
+use Rattle.storing.proofs.place_or_next.Tie as tie
 
 returns : tie.Need-returns
 returns c = rw (lt-ltb _ _ (c .if1 .taken))

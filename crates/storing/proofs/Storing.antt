@@ -6,14 +6,12 @@ use Prim.Native.Nat.{ℕ, suc, _+_, _*_, _≤_, _<_}
 use native.Mathlib.Omega.{arith}
 use native.Mathlib.Numerals.{add-one}
 use lib.Dec.{eqb, ltb}
-use lib.ListN.{length, take, getD, replicate, length-append, length-set, getD-replicate}
-use lib.Seq.{getD-take}
+use lib.ListN.{length, getD, length-append, length-set}
 use borrow.Author.Tests.{eq-eqb, ne-eqb, ltb-true, ltb-false, le-ltb}
 use Rattle.theory.specs.laws.Same.{eqs-true}
 use Rattle.theory.specs.Each.{Each}
-use Rattle.theory.specs.laws.Each.{each-head, each-tail, each-map}
+use Rattle.theory.specs.laws.Each.{each-head, each-tail}
 use Rattle.theory.specs.Count.{bump}
-use Rattle.theory.specs.laws.Table.{length-cut}
 use Rattle.theory.specs.Walk.{some}
 use Rattle.theory.specs.Keep.{onto}
 use Rattle.theory.specs.Pick.{good, pick}
@@ -28,31 +26,22 @@ use Rattle.columns.specs.Columns.{panOf}
 use Rattle.lines.specs.Rules.{recordHolds}
 use Rattle.lines.specs.End.{recordOf}
 use Rattle.records.specs.Slot.{putRecord}
-use Rattle.register.specs.Register.{slotLength, slotsMost, slotsIn, slotsOf, records, usedIn, usedPart}
+use Rattle.sizes.specs.Sizes.{slotLength, slotsMost}
+use Rattle.register.specs.Register.{slotsIn, records, usedIn}
 use Rattle.register.specs.Search.{holdsPan, placeOf}
-use Rattle.register.specs.laws.Register.{ordered, used-most, used-fits, used-slots, slots-used}
-use Rattle.holdings.specs.Holdings.{stored, storedAll, holdings}
-use Rattle.sizes.specs.Modes.{isFull}
-use Rattle.holdings.specs.AtOnce.{placesIn}
-use Rattle.holdings.specs.laws.Storing.{stored-held, stored-new, all-grows, new-others}
-use Rattle.upkeep.specs.Holds.{Holds}
+use Rattle.register.specs.laws.Register.{ordered, used-most}
+use Rattle.holdings.specs.Holdings.{stored, storedAll}
+use Rattle.holdings.specs.laws.Storing.{stored-held, stored-new, all-grows}
+use Rattle.upkeep.specs.Holds.{Holds, Left}
+use Rattle.upkeep.specs.laws.Makes.{record-makes}
 use Rattle.upkeep.specs.laws.Stays.{written-length, written-used, written-put, as-it-is, replaced, added}
-use Rattle.applying.specs.Fit.{Fit}
-use Rattle.applying.specs.laws.Standing.{Stands, Standing, standing-turn, Sought}
-use Rattle.applying.specs.laws.Steps.{prepared, storedIf, Left, Ready, Storing}
-use Rattle.applying.specs.laws.Taken.{record-pan, prepared-stored}
+use Rattle.storing.specs.CanStore.{Stands, CanStore}
+use Rattle.storing.specs.laws.Standing.{Standing, standing-turn}
+use Rattle.storing.specs.laws.Steps.{storedIf, Ready, Storing}
 
 -- ---- its slot
 
 module _ (b : List ℕ) (used : ℕ) (e : used ≡ usedIn b) (pan : List ℕ) where
-  pub used-bytes : used * slotLength ≤ length b
-  used-bytes = rw e (used-fits b)
-
-  -- u are the used slots, in which it was searched for
-  pub slot-searched : (u : List ℕ) → u ≡ take (used * slotLength) b → (i : ℕ) → i ≡ placeOf pan (slotsOf u) → i ≡ placeOf pan (records b)
-  unfolding usedPart
-  slot-searched u p i g = g ∙ rw (p, e, slots-used b)
-
   -- f tells of it
   pub slot-told : (first f : ℕ) → Stands first (records b) pan f → (i : ℕ) → i ≡ cond (ltb f first) f used → i ≡ placeOf pan (records b)
   unfolding placeOf
@@ -63,22 +52,6 @@ module _ (b : List ℕ) (used : ℕ) (e : used ≡ usedIn b) (pan : List ℕ) wh
       go false h =
           let n : ltb (place (holdsPan pan) (records b)) (length (records b)) ≡ false = sym (place-some (holdsPan pan) (records b)) ∙ s .new (ltb-false f first h) in
           omega (arith, e, place-most (holdsPan pan) (records b), ltb-false (place (holdsPan pan) (records b)) (length (records b)) n)
-
--- ---- the places of all
-
-pub unplaced : (mode : ℕ) (found sought : List ℕ) → mode ≡ 2 → found ≡ cond (isFull mode) found sought
-unfolding isFull
-unplaced mode found sought e = rw (eq-eqb mode 2 e)
-
--- u are the used slots
-module _ (b : List ℕ) (used : ℕ) (e : used ≡ usedIn b) (u : List ℕ) (p : u ≡ take (used * slotLength) b) where
-  pub slots-few : used ≤ slotsMost → slotsIn u ≤ slotsMost
-  unfolding usedPart
-  slots-few l = rw (p, e, used-slots b) (omega (arith, e))
-
-  pub placed : (mode : ℕ) → (mode ≡ 2 → ⊥) → (found lines vs : List ℕ) (m : ℕ) (r : List ℕ) → r ≡ placesIn (slotsOf u) lines vs m → r ≡ cond (isFull mode) found (placesIn (records b) lines vs m)
-  unfolding isFull usedPart
-  placed mode n found lines vs m r g = g ∙ rw (ne-eqb mode 2 n, p, e, slots-used b)
 
 -- ---- one line
 
@@ -91,9 +64,6 @@ unfolding bump
 as-many i used h = rw (ne-eqb i used h)
 
 module _ (t : Bool) (reception l b : List ℕ) (used : ℕ) (y : Ready t reception l b used) where
-  pub ready-fits : used * slotLength ≤ length b
-  ready-fits = rw (y .counted) (used-fits b)
-
   pub ready-most : used ≤ slotsMost
   ready-most = omega (arith, y .counted, used-most b, ordered b (y .order) .most)
 
@@ -134,13 +104,13 @@ module _ (reception l b : List ℕ) (used : ℕ) (y : Ready true reception l b u
       })
 
   -- i is the place of the line's PAN
-  pub put-line : (pan : List ℕ) → pan ≡ panOf l → (i : ℕ) → i ≡ placeOf pan R
+  pub put-line : (i : ℕ) → i ≡ placeOf (panOf l) R
       → (b′ : List ℕ) → b′ ≡ putRecord i reception l b → (r : ℕ) → r ≡ bump (eqb i used) used → Left (slotsIn b) (stored x R) b′ r
   unfolding placeOf
-  put-line pan f i g b′ p r n = rw (n, p, place-is) (go (ltb (placeOf (panOf x) R) (length R)) refl)
+  put-line i g b′ p r n = rw (n, p, place-is) (go (ltb (placeOf (panOf x) R) (length R)) refl)
     where
       place-is : i ≡ placeOf (panOf x) R
-      place-is = g ∙ rw (f, record-pan reception (y .received) l (y .line refl))
+      place-is = g ∙ rw (record-makes reception (y .received) l (y .line refl) .pan)
 
       go : (t : Bool) → ltb (placeOf (panOf x) R) (length R) ≡ t → Left (slotsIn b) (stored x R) (putRecord (placeOf (panOf x) R) reception l b) (bump (eqb (placeOf (panOf x) R) used) used)
       go true h = put-held (ltb-true (placeOf (panOf x) R) (length R) h)
@@ -207,64 +177,49 @@ module _ (reception : List ℕ) (n : ℕ) (goal : List (List ℕ)) (b : List ℕ
   pub storing-length : (b₀ : List ℕ) (ls ks : List (List ℕ)) (m : ℕ) → Storing reception n goal ks b₀ m → Storing reception n goal ls b used → length b ≡ length b₀
   storing-length b₀ ls ks m s₀ s = omega (arith, ordered b₀ (s₀ .order) .whole, ordered b (s .order) .whole, s₀ .many, s .many)
 
-  pub storing-end : (vs ls : List ℕ) (i : ℕ) → Storing reception n goal (takenFrom slotLength (length vs) vs ls i) b used → length vs ≤ i → Holds n goal b
+  pub storing-end : (width : ℕ) (vs ls : List ℕ) (i : ℕ) → Storing reception n goal (takenFrom width (length vs) vs ls i) b used → length vs ≤ i → Holds n goal b
   unfolding storedAll
-  storing-end vs ls i s h =
-      let e : records b ≡ goal = rw (taken-end slotLength (length vs) vs ls i h) at (s .leads) in
+  storing-end width vs ls i s h =
+      let e : records b ≡ goal = rw (taken-end width (length vs) vs ls i h) at (s .leads) in
       rw (s .many, e) at (as-it-is b (s .order))
 
-  module _ (vs ls : List ℕ) where
-    pub storing-start : Storing reception n goal (pick good vs (chop slotLength (length vs) ls)) b used → Storing reception n goal (takenFrom slotLength (length vs) vs ls 0) b used
-    storing-start s = rw (taken-start slotLength (length vs) vs ls) at s
+  module _ (width : ℕ) (vs ls : List ℕ) where
+    pub storing-start : Storing reception n goal (pick good vs (chop width (length vs) ls)) b used → Storing reception n goal (takenFrom width (length vs) vs ls 0) b used
+    storing-start s = rw (taken-start width (length vs) vs ls) at s
 
-    module _ (i : ℕ) (s : Storing reception n goal (takenFrom slotLength (length vs) vs ls i) b used) (h : i < length vs) (x : List ℕ) (p : x ≡ partAt slotLength i ls) where
-      step : Storing reception n goal (onto (good (getD vs i 0)) x (takenFrom slotLength (length vs) vs ls (i + 1))) b used
-      step = rw p (rw (taken-step slotLength (length vs) vs ls i h h) at s)
+    module _ (i : ℕ) (s : Storing reception n goal (takenFrom width (length vs) vs ls i) b used) (h : i < length vs) (x : List ℕ) (p : x ≡ partAt width i ls) where
+      step : Storing reception n goal (onto (good (getD vs i 0)) x (takenFrom width (length vs) vs ls (i + 1))) b used
+      step = rw p (rw (taken-step width (length vs) vs ls i h h) at s)
 
       pub storing-ready : Ready (good (getD vs i 0)) reception x b used
       storing-ready = on-ready (good (getD vs i 0)) x _ step
 
       pub storing-turn : (b′ : List ℕ) (r : ℕ) → Left (slotsIn b) (storedIf (good (getD vs i 0)) (recordOf reception x) (records b)) b′ r
-          → Storing reception n goal (takenFrom slotLength (length vs) vs ls (i + 1)) b′ r
+          → Storing reception n goal (takenFrom width (length vs) vs ls (i + 1)) b′ r
       storing-turn = on-turn (good (getD vs i 0)) x _ step
 
 -- what is told of the lines behind stays as it is
-pub standing-left : (vs ls : List ℕ) (n : ℕ) (found : List ℕ) (i : ℕ) (b : List ℕ) → Standing vs ls n (records b) found i → i < length vs → (x : List ℕ) → x ≡ partAt slotLength i ls
+pub standing-left : (width : ℕ) (vs ls : List ℕ) (n : ℕ) (found : List ℕ) (i : ℕ) (b : List ℕ) → Standing width vs ls n (records b) found i → i < length vs → (x : List ℕ) → x ≡ partAt width i ls
     → (reception : List ℕ) (used : ℕ) → Ready (good (getD vs i 0)) reception x b used
-    → (b′ : List ℕ) (r : ℕ) → Left (slotsIn b) (storedIf (good (getD vs i 0)) (recordOf reception x) (records b)) b′ r → Standing vs ls n (records b′) found (i + 1)
-standing-left vs ls n found i b s h x p reception used y b′ r w =
+    → (b′ : List ℕ) (r : ℕ) → Left (slotsIn b) (storedIf (good (getD vs i 0)) (recordOf reception x) (records b)) b′ r → Standing width vs ls n (records b′) found (i + 1)
+standing-left width vs ls n found i b s h x p reception used y b′ r w =
     rw (w .holds .held)
-    (standing-turn vs ls n (records b) found i s h (good (getD vs i 0)) refl (recordOf reception x) (λ e. record-pan reception (y .received) x (y .line e) ∙ ap panOf p))
+    (standing-turn width vs ls n (records b) found i s h (good (getD vs i 0)) refl (recordOf reception x) (λ e. record-makes reception (y .received) x (y .line e) .pan ∙ ap panOf p))
 
--- ---- all of them, into what was prepared
+-- ---- before the first
 
-module _ (mode : ℕ) (who reception b : List ℕ) (ls : List (List ℕ)) (f : Fit mode who reception (slotsIn b) (records b) ls) (b₁ : List ℕ) (used : ℕ) (p : Left (slotsIn b) (prepared mode who (records b)) b₁ used) where
-  leads-on : storedAll (records b₁) (map (recordOf reception) ls) ≡ holdings mode who reception (records b) ls
-  leads-on = rw (p .holds .held) (prepared-stored mode who reception (slotsIn b) (records b) ls f)
+module _ (reception b : List ℕ) (first width : ℕ) (lines vs found : List ℕ) (c : CanStore reception b first width lines vs found) where
+  abbrev ls : List (List ℕ)
+  ls = pick good vs (chop width (length vs) lines)
 
-  pub apply-ready : Storing reception (slotsIn b₁) (storedAll (records b₁) (map (recordOf reception) ls)) ls b₁ used
-  apply-ready =
+  pub can-start : Storing reception (slotsIn b) (storedAll (records b) (map (recordOf reception) ls)) ls b first
+  can-start =
+      record { order = c .order; counted = c .counted; many = refl; received = c .received; lined = c .lined; leads = refl; room = c .room }
+
+  pub standing-start : Standing width vs lines first (records b) found 0
+  standing-start =
       record {
-        order = p .holds .order;
-        counted = p .counted ∙ ap length (sym (p .holds .held));
-        many = refl;
-        received = f .received;
-        lined = f .lined;
-        leads = refl;
-        room = rw (leads-on, p .holds .many) (f .room);
+        fewer = omega (arith, c .counted);
+        apart = rw (← taken-start width (length vs) vs lines) (c .apart);
+        stands = λ j k m g. c .placed j m g;
       }
-
-  -- `found` has a number that is no place, k times
-  pub apply-sought : (k : ℕ) → k ≤ slotsMost → Sought mode (records b₁) ls (take k (replicate slotsMost slotsMost))
-  unfolding prepared
-  apply-sought k l =
-      record {
-        apart = f .apart;
-        new = λ full. each-map (λ l e. rw (p .holds .held, full) (new-others who (panOf l) (records b) e)) (f .free);
-        none = λ j h.
-            let m : j < k = omega (arith, length-cut k slotsMost slotsMost l) in
-            getD-take k (replicate slotsMost slotsMost) j 0 m ∙ getD-replicate slotsMost j slotsMost 0 (omega arith);
-      }
-
-  pub applied : (b₂ : List ℕ) → Holds (slotsIn b₁) (storedAll (records b₁) (map (recordOf reception) ls)) b₂ → Holds (slotsIn b) (holdings mode who reception (records b) ls) b₂
-  applied b₂ h = rw (leads-on, p .holds .many) at h

@@ -1,0 +1,90 @@
+-- The lines stored into what was prepared. Assumes nothing.
+use mathlib.Core.Path.{_≡_, refl, sym, ap, _∙_}
+use mathlib.Core.Bool.{Bool, true, false, cond}
+use mathlib.Core.List.{List, map}
+use Prim.Native.Nat.{ℕ, _≤_, _<_}
+use native.Mathlib.Omega.{arith}
+use lib.ListN.{length, getD}
+use borrow.Author.Tests.{le-ltb, eq-eqb, ne-eqb}
+use Rattle.theory.specs.Each.{Each}
+use Rattle.theory.specs.Walk.{some}
+use Rattle.theory.specs.Parts.{partAt}
+use Rattle.theory.specs.Pick.{good}
+use Rattle.theory.specs.laws.Place.{place-some}
+use Rattle.times.specs.Time.{realTime}
+use Rattle.sizes.specs.Sizes.{full, slotsMost}
+use Rattle.sizes.specs.Modes.{isFull}
+use Rattle.columns.specs.Columns.{panOf}
+use Rattle.lines.specs.Rules.{recordHolds}
+use Rattle.lines.specs.End.{recordOf}
+use Rattle.register.specs.Register.{slotsIn, records, usedIn, inOrder}
+use Rattle.register.specs.Search.{holdsPan, placeOf}
+use Rattle.register.specs.laws.Register.{ordered, used-most}
+use Rattle.taken.specs.Taken.{takenIn}
+use Rattle.holdings.specs.Holdings.{storedAll, others, holdings}
+use Rattle.holdings.specs.laws.Places.{places-tell}
+use Rattle.upkeep.specs.Holds.{Holds, Left}
+use Rattle.upkeep.specs.laws.Stays.{as-it-is}
+use Rattle.storing.specs.CanStore.{Stands, CanStore}
+use Rattle.storing.specs.laws.Standing.{each-taken}
+use Rattle.applying.specs.Fit.{Fit, Sought}
+use Rattle.applying.specs.laws.Prepared.{prepared, prepared-stored, each-new}
+
+-- ---- prepared
+
+pub all-gone : (mode : ℕ) (who : List ℕ) (R : List (List ℕ)) → mode ≡ full → others who R ≡ prepared mode who R
+unfolding prepared isFull
+all-gone mode who R e = rw (eq-eqb mode full e)
+
+pub none-gone : (b : List ℕ) → inOrder b ≡ true → (mode : ℕ) (who : List ℕ) (r : ℕ) → (mode ≡ full → ⊥) → r ≡ usedIn b → Left (slotsIn b) (prepared mode who (records b)) b r
+unfolding prepared isFull
+none-gone b h mode who r n u = rw (ne-eqb mode full n) (record { holds = as-it-is b h; counted = u })
+
+-- ---- what is told of the lines, among the records of the register that was prepared
+
+module _ (R : List (List ℕ)) (n : ℕ) (e : n ≡ length R) (pan : List ℕ) (f : ℕ) where
+  stands-found : f ≡ placeOf pan R → Stands n R pan f
+  unfolding placeOf
+  stands-found p = record { held = λ k. sym p; new = λ k. place-some (holdsPan pan) R ∙ rw (← p) (le-ltb f (length R) (omega (arith, e))) }
+
+  stands-nowhere : some (holdsPan pan) R ≡ false → n ≤ f → Stands n R pan f
+  stands-nowhere p l = record { held = λ k. absurd (omega arith); new = λ k. p }
+
+module _ (mode : ℕ) (who reception b : List ℕ) (width : ℕ) (lines vs found : List ℕ) (o : inOrder b ≡ true) (real : realTime reception ≡ true)
+    (k : Each (λ l. recordHolds l ≡ true) (takenIn width vs lines)) (f : Fit mode who (recordOf reception) (slotsIn b) (records b) (takenIn width vs lines))
+    (s : Sought mode (records b) width lines vs found) (b₁ : List ℕ) (used : ℕ) (p : Left (slotsIn b) (prepared mode who (records b)) b₁ used) where
+  counted : used ≡ usedIn b₁
+  counted = p .counted ∙ ap length (sym (p .holds .held))
+
+  leads-on : storedAll (records b₁) (map (recordOf reception) (takenIn width vs lines)) ≡ holdings mode who (recordOf reception) (records b) (takenIn width vs lines)
+  leads-on = rw (p .holds .held) (prepared-stored mode who (recordOf reception) (slotsIn b) (records b) (takenIn width vs lines) f)
+
+  used-few : used ≤ slotsMost
+  used-few = omega (arith, counted, used-most b₁, ordered b₁ (p .holds .order) .most)
+
+  stands : (i : ℕ) → i < length vs → good (getD vs i 0) ≡ true → Stands used (records b₁) (panOf (partAt width i lines)) (getD found i 0)
+  unfolding prepared
+  stands i l g = go (isFull mode) refl (p .holds .held)
+    where
+      go : (t : Bool) → isFull mode ≡ t → records b₁ ≡ cond t (others who (records b)) (records b) → Stands used (records b₁) (panOf (partAt width i lines)) (getD found i 0)
+      go true m q =
+          stands-nowhere (records b₁) used counted _ _
+          (rw q (each-taken width vs lines _ i l g (each-new mode who (recordOf reception) (slotsIn b) (records b) (takenIn width vs lines) f)))
+          (omega (arith, used-few, s .none m i l))
+      go false m q = stands-found (records b₁) used counted _ _ (rw q (places-tell (records b) width lines vs found (s .places m) .told i l g))
+
+  pub can-store : CanStore reception b₁ used width lines vs found
+  can-store =
+      record {
+        order = p .holds .order;
+        counted = counted;
+        received = real;
+        lined = k;
+        apart = f .apart;
+        room = rw (leads-on, p .holds .many) (f .room);
+        placed = stands;
+      }
+
+  pub applied : (b₂ : List ℕ) → Holds (slotsIn b₁) (storedAll (records b₁) (map (recordOf reception) (takenIn width vs lines))) b₂
+      → Holds (slotsIn b) (holdings mode who (recordOf reception) (records b) (takenIn width vs lines)) b₂
+  applied b₂ h = rw (leads-on, p .holds .many) at h

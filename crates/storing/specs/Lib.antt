@@ -1,0 +1,3 @@
+pub mod CanStore
+pub mod Promises
+pub mod laws

@@ -1,0 +1,13 @@
+-- What the public function of this crate promises. Assumes nothing.
+use mathlib.Core.List.{List, map}
+use Prim.Native.Nat.{ℕ}
+use Rattle.lines.specs.End.{recordOf}
+use Rattle.register.specs.Register.{slotsIn, records}
+use Rattle.taken.specs.Taken.{takenIn}
+use Rattle.holdings.specs.Holdings.{storedAll}
+use Rattle.upkeep.specs.Holds.{Holds}
+
+-- the register after it holds the records of the taken lines too, stored one after the other
+abbrev pub StoreAll : List ℕ → List ℕ → ℕ → List ℕ → List ℕ → List ℕ → Type 0
+StoreAll b lines width vs reception after =
+    Holds (slotsIn b) (storedAll (records b) (map (recordOf reception) (takenIn width vs lines))) after
