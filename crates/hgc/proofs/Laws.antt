@@ -21,7 +21,7 @@ use Rattle.numbers.specs.Number.{decimal}
 use Rattle.numbers.specs.laws.Number.{length-decimal}
 use Rattle.columns.specs.Columns.{text}
 use Rattle.hgv.specs.Layout.{linesIn, lengthHolds, body, linesOf}
-use Rattle.hgv.specs.laws.Layout.{lines-room, each-line, length-least}
+use Rattle.hgv.specs.laws.Layout.{width-is, lines-room, each-line, length-least}
 use Rattle.header.specs.Header.{sender, listSequence}
 use Rattle.hgc.specs.Confirmation.{confirmationLength, zeros, outcome, names, counts, head, answer, answers, foot, confirmation}
 use Rattle.hgc.specs.laws.Confirmation.{said, length-zeros, length-outcome, length-names, length-counts, length-answer, length-foot, answers-none, answers-most, answers-more, length-answers}
@@ -164,15 +164,15 @@ module _ (vs b o : List ℕ) where
 -- ---- the whole; s₁ to s₄ are the block after each part, and q is the position of the footer
 
 pub lines-fit : (h b : List ℕ) (n : ℕ) → b ≡ body h → n ≡ linesIn h → n * 128 ≤ length b
-lines-fit h b n e k = rw (e, k) (lines-room h)
+lines-fit h b n e k = rw (e, k, ← width-is h) (lines-room h)
 
 module _ (h vs b s₂ s₃ : List ℕ) (q : ℕ) (eb : b ≡ body h) (v : Laid 111 q (flat (answers vs (chop 128 (length vs) b))) s₂ s₃) (each : length vs ≡ linesIn h) where
   lines-laid : Laid 111 q (flat (answers vs (linesOf h))) s₂ s₃
   unfolding linesOf
-  lines-laid = rw (each, eb) at v
+  lines-laid = rw (each, eb, ← width-is h) at v
 
   foot-place : q ≤ 111 + tally bad vs * 130
-  foot-place = omega (arith, lines-laid .behind, length-answers vs (each-line h), answers-most vs (linesOf h))
+  foot-place = omega (arith, lines-laid .behind, length-answers vs (rw (width-is h) at (each-line h)), answers-most vs (linesOf h))
 
   pub foot-fits : confirmationLength (tally bad vs) ≤ length s₂ → (1 ≤ q) × (q - 1 + 64 ≤ length s₃)
   foot-fits r = let n : length s₃ ≡ length s₂ = laid-length 111 q _ s₂ s₃ v in (omega (arith, v .behind), omega (arith, v .behind, foot-place))

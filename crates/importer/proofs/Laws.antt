@@ -1,91 +1,116 @@
 -- What the functions of this crate cite. Assumes nothing.
 use mathlib.Core.Path.{_≡_, refl, sym, ap, _∙_}
-use mathlib.Core.Bool.{Bool, true, false}
+use mathlib.Core.Bool.{Bool, true, false, cond, true≢false}
 use mathlib.Core.List.{List, _++_}
-use Prim.Native.Nat.{ℕ, _+_, _-_, _*_, _≤_}
+use Prim.Native.Nat.{ℕ, _+_, _-_, _*_, _≤_, _<_}
 use native.Mathlib.Omega.{arith}
 use lib.Dec.{ltb}
-use lib.ListN.{length, drop}
+use lib.ListN.{length, drop, take, replicate, getD, getD-replicate}
+use lib.Seq.{getD-take}
 use Rattle.theory.specs.First.{choose, first}
-use Rattle.theory.specs.Parts.{chop}
-use Rattle.theory.specs.Pick.{good, bad, pick}
+use Rattle.theory.specs.Each.{Each}
+use Rattle.theory.specs.laws.Table.{length-cut}
+use Rattle.theory.specs.Pick.{good, bad}
 use Rattle.theory.specs.Tally.{tally}
 use Rattle.theory.specs.laws.Tally.{tallies}
 use Rattle.header.specs.Header.{sender}
 use Rattle.times.specs.laws.Moment.{real-length}
-use Rattle.hgv.specs.Layout.{linesIn, lengthHolds, body}
-use Rattle.sizes.specs.Sizes.{lineLength, linesMost}
-use Rattle.register.specs.Register.{records, slotsIn, inOrder}
+use Rattle.sizes.specs.Sizes.{slotsMost, linesMost}
+use Rattle.sizes.specs.Modes.{isFull}
+use Rattle.times.specs.Time.{realTime}
+use Rattle.lines.specs.Rules.{recordHolds}
+use Rattle.lines.specs.End.{recordOf}
+use Rattle.taken.specs.Taken.{takenIn}
+use Rattle.hgv.specs.Layout.{widthOf, linesIn, lengthHolds, body}
+use Rattle.register.specs.Register.{records, slotsIn, usedIn, inOrder}
+use Rattle.register.specs.laws.Register.{ordered, used-most}
 use Rattle.upkeep.specs.Holds.{Holds}
 use Rattle.verdicts.specs.Verdict.{taken}
 use Rattle.hgc.specs.Confirmation.{confirmation, confirmationLength}
 use Rattle.holdings.specs.Holdings.{holdings}
 use Rattle.holdings.specs.Room.{usedAfter}
-use Rattle.applying.specs.Fit.{Fit}
+use Rattle.holdings.specs.Places.{placesIn, placesAfter}
+use Rattle.holdings.specs.laws.Places.{length-places}
+use Rattle.applying.specs.Fit.{Fit, Sought}
 use Rattle.hgv.specs.laws.Layout.{lines-most}
 use Rattle.stops.specs.Stops.{formStop}
 use Rattle.stops.specs.laws.Clear.{Clear, clear}
 use Rattle.importer.specs.declared.Imported.{Imported}
 use Rattle.importer.specs.Import.{judged, following, confirmed, roomStops, success, written, told}
 use Rattle.importer.specs.laws.Numbers.{Room, room-clear}
-use Rattle.importer.specs.laws.Accepted.{Accepted, verdict-each, lines-there, verdicts-most, lines-are, lines-hold, lines-apart, lines-free, following-used, confirmed-length}
+use Rattle.importer.specs.laws.Accepted.{NoPlaces, Accepted, verdict-each, lines-there, verdicts-most, lines-are, lines-hold, lines-made, lines-apart, lines-free, following-used, confirmed-length}
 
 -- vs are the verdicts, and r of them reject their line
 module _ (mode : ℕ) (reception register rows h : List ℕ) (vs : List ℕ) (r : ℕ)
-    (p : Clear mode reception register rows h × ((vs ≡ judged register rows h) × (r ≡ tally bad vs))) where
-  -- ls is the body as the code has it
-  pub lines-fit : (ls : List ℕ) → ls ≡ body h → length vs * lineLength ≤ length ls
-  lines-fit ls e = rw e (lines-there mode reception register rows h (p .0) vs (p .1 .0))
+    (c : Clear mode reception register rows h) (v : vs ≡ judged register rows h) (e : r ≡ tally bad vs) where
+  -- ls is the body and w the width as the code has them
+  pub lines-fit : (ls : List ℕ) → ls ≡ body h → (w : ℕ) → w ≡ widthOf h → length vs * w ≤ length ls
+  lines-fit ls el w ew = rw (el, ew) (lines-there mode reception register rows h c vs v)
+
+  pub used-few : usedIn register ≤ slotsMost
+  used-few = omega (arith, used-most register, ordered register (c .ordered) .most)
 
   pub rejected-most : r ≤ linesMost
-  rejected-most = omega (arith, p .1 .1, tallies vs, verdicts-most mode reception register rows h (p .0) vs (p .1 .0))
+  rejected-most = omega (arith, e, tallies vs, verdicts-most mode reception register rows h c vs v)
 
-  -- from and ls are sender and body, k the slots that would be used, m the confirmation's length
-  pub room-is : (from ls : List ℕ) → from ≡ sender h → ls ≡ body h → (k : ℕ) → k ≡ usedAfter mode from (records register) (pick good vs (chop lineLength (length vs) ls))
+  -- from, ls and w are sender, body and width, k the slots that would be used, m the confirmation's length
+  pub room-is : (from ls : List ℕ) → from ≡ sender h → ls ≡ body h → (w : ℕ) → w ≡ widthOf h → (k : ℕ) → k ≡ usedAfter mode from (records register) (takenIn w vs ls)
       → (m : ℕ) → m ≡ confirmationLength r → (hgc : List ℕ) (s t : ℕ) → s ≡ choose (ltb (length hgc) m) 34 0 → t ≡ choose (ltb (slotsIn register) k) 33 s
       → t ≡ first (roomStops mode reception register rows h hgc)
   unfolding roomStops first
-  room-is from ls ef el k ek m em hgc s t es et =
-      let u : k ≡ usedAfter mode (sender h) (records register) (pick good vs (chop lineLength (length vs) (body h))) = ek ∙ rw (ef, el) in
+  room-is from ls ef el w ew k ek m em hgc s t es et =
+      let u : k ≡ usedAfter mode (sender h) (records register) (takenIn (widthOf h) vs (body h)) = ek ∙ rw (ef, el, ew) in
       et
       ∙ rw (
         es,
         u,
-        lines-are mode reception register rows h (p .0) vs (p .1 .0),
-        following-used mode reception register rows h (p .0),
+        lines-are mode reception register rows h c vs v,
+        following-used mode reception register rows h c,
         em,
-        ← confirmed-length mode reception register rows h (p .0) vs (p .1 .0) r (p .1 .1),
+        ← confirmed-length mode reception register rows h c vs v r e,
       )
 
 -- ---- what is carried out
 
-module _ (mode : ℕ) (reception register rows h hgc vs : List ℕ) (t r : ℕ) (a : Accepted mode reception register rows h hgc vs t r) where
+module _ (mode : ℕ) (reception register rows h hgc vs : List ℕ) (t r : ℕ) (found : List ℕ) (a : Accepted mode reception register rows h hgc vs t r found) where
   c : Clear mode reception register rows h
   c = a .clear
 
-  -- from and ls are sender and body
-  module _ (from ls : List ℕ) (ef : from ≡ sender h) (el : ls ≡ body h) where
-    lines-taken : pick good vs (chop lineLength (length vs) ls) ≡ taken (judged register rows h) h
-    lines-taken = rw el (lines-are mode reception register rows h c vs (a .verdicts))
+  -- from, ls and w are sender, body and width
+  module _ (from ls : List ℕ) (w : ℕ) (ef : from ≡ sender h) (el : ls ≡ body h) (ew : w ≡ widthOf h) where
+    lines-taken : takenIn w vs ls ≡ taken (judged register rows h) h
+    lines-taken = rw (el, ew) (lines-are mode reception register rows h c vs (a .verdicts))
 
-    pub apply-fits : (length vs * lineLength ≤ length ls) × ((inOrder register ≡ true) × Fit mode from reception (slotsIn register) (records register) (pick good vs (chop lineLength (length vs) ls)))
+    pub apply-fits : (length vs * w ≤ length ls)
+        × ((inOrder register ≡ true)
+        × ((realTime reception ≡ true)
+        × (Each (λ l. recordHolds l ≡ true) (takenIn w vs ls)
+        × (Fit mode from (recordOf reception) (slotsIn register) (records register) (takenIn w vs ls) × Sought mode (records register) w ls vs found))))
     unfolding following
     apply-fits = (
-      rw el (lines-there mode reception register rows h c vs (a .verdicts)),
+      rw (el, ew) (lines-there mode reception register rows h c vs (a .verdicts)),
       (
         c .ordered,
-        rw (lines-taken, ef)
-            record {
-              received = c .received;
-              lined = lines-hold mode reception register rows h c;
-              apart = lines-apart mode reception register rows h c;
-              free = lines-free mode reception register rows h c;
-              room = a .slots;
-            },
+        (
+          c .received,
+          (
+            rw lines-taken (lines-hold mode reception register rows h c),
+            (
+              rw (lines-taken, ef)
+                  record {
+                    made = lines-made mode reception register rows h c;
+                    apart = lines-apart mode reception register rows h c;
+                    free = lines-free mode reception register rows h c;
+                    room = a .slots;
+                  },
+              rw (el, ew) (a .sought),
+            ),
+          ),
+        ),
       ),
     )
 
-    pub applied : (b : List ℕ) → Holds (slotsIn register) (holdings mode from reception (records register) (pick good vs (chop lineLength (length vs) ls))) b → b ≡ written mode reception register rows h
+    pub applied : (b : List ℕ) → Holds (slotsIn register) (holdings mode from (recordOf reception) (records register) (takenIn w vs ls)) b → b ≡ written mode reception register rows h
     unfolding written following
     applied b k = k .bytes ∙ rw (lines-taken, ef)
 
@@ -112,7 +137,7 @@ module _ (mode : ℕ) (reception register rows h hgc vs : List ℕ) (t r : ℕ) 
   told-is g e = e ∙ rw (a .verdicts)
 
   pub accepted-most : r ≤ linesMost
-  accepted-most = rejected-most mode reception register rows h vs r (c, (a .verdicts, a .rejected-are))
+  accepted-most = rejected-most mode reception register rows h vs r c (a .verdicts) (a .rejected-are)
 
   pub success-is : (m : ℕ) → m ≡ confirmationLength r → record { number = 0; taken = t; rejected = r; length = m } ≡ success reception register rows h
   unfolding success
@@ -129,15 +154,34 @@ pub taken-most : (vs : List ℕ) (t : ℕ) → t ≡ tally good vs → t ≤ len
 taken-most vs t e = omega (arith, tallies vs)
 
 module _ (mode : ℕ) (reception register rows h vs : List ℕ) (c : Clear mode reception register rows h) (v : vs ≡ judged register rows h) where
-  pub room-asks : (t : ℕ) → t ≡ tally good vs → Clear mode reception register rows h × ((vs ≡ judged register rows h) × (length vs - t ≡ tally bad vs))
-  room-asks t e = (c, (v, rest-rejected vs t e))
+  pub as-many : (n : ℕ) → n ≡ linesIn h → n ≡ length vs
+  as-many n e = e ∙ sym (verdict-each mode reception register rows h c vs v)
 
-  pub accepts : (hgc : List ℕ) (t : ℕ) → t ≡ tally good vs → (s : ℕ) → s ≡ first (roomStops mode reception register rows h hgc) → s ≡ 0
-      → Accepted mode reception register rows h hgc vs t (length vs - t)
-  accepts hgc t e s f z =
-      let room : Room mode reception register rows h hgc = room-clear mode reception register rows h hgc (sym f ∙ z) in
-      record { clear = c; verdicts = v; taken-are = e; rejected-are = rest-rejected vs t e; slots = room .slots; buffer = room .buffer }
+  -- found₀ is the block before, and `found` what was found
+  module _ (found₀ found : List ℕ) (z : NoPlaces found₀) (m : length found₀ ≡ linesIn h) (g : found ≡ placesAfter mode (records register) (widthOf h) (body h) vs found₀) where
+    sought : Sought mode (records register) (widthOf h) (body h) vs found
+    unfolding placesAfter
+    sought = go (isFull mode) refl g
+      where
+        go : (b : Bool) → isFull mode ≡ b → found ≡ cond b found₀ (placesIn (records register) (widthOf h) (body h) vs) → Sought mode (records register) (widthOf h) (body h) vs found
+        go true f k = record { many = ap length k ∙ as-many (length found₀) m; places = λ n. absurd (true≢false (sym f ∙ n)); none = λ _ i l. rw k (z .none i (omega (arith, as-many (length found₀) m))) }
+        go false f k = record { many = length-places (records register) (widthOf h) (body h) vs found k; places = λ _. k; none = λ n. absurd (true≢false (sym n ∙ f)) }
+
+    pub accepts : (hgc : List ℕ) (t : ℕ) → t ≡ tally good vs → (s : ℕ) → s ≡ first (roomStops mode reception register rows h hgc) → s ≡ 0
+        → Accepted mode reception register rows h hgc vs t (length vs - t) found
+    accepts hgc t e s f y =
+        let room : Room mode reception register rows h hgc = room-clear mode reception register rows h hgc (sym f ∙ y) in
+        record { clear = c; verdicts = v; taken-are = e; rejected-are = rest-rejected vs t e; slots = room .slots; buffer = room .buffer; sought = sought }
 
 -- n lines have room in a block for the most that there may be
 pub lines-in-most : (mode : ℕ) (reception register rows h : List ℕ) (s : ℕ) → s ≡ formStop mode reception register rows h → s ≡ 0 → (n : ℕ) → n ≡ linesIn h → n ≤ linesMost
 lines-in-most mode reception register rows h s e z n f = rw f (lines-most h (clear mode reception register rows h (sym e ∙ z) .sized))
+
+-- a block that has a number which is no place throughout
+pub no-places : (n : ℕ) → n ≤ linesMost → NoPlaces (take n (replicate linesMost slotsMost))
+no-places n l =
+    record {
+      none = λ j h.
+          let m : j < n = omega (arith, length-cut n linesMost slotsMost l) in
+          getD-take n (replicate linesMost slotsMost) j 0 m ∙ getD-replicate linesMost j slotsMost 0 (omega arith);
+    }

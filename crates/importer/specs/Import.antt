@@ -11,7 +11,9 @@ use Rattle.theory.specs.Pad.{pad}
 use Rattle.theory.specs.Pick.{good, bad}
 use Rattle.theory.specs.Tally.{tally}
 use Rattle.header.specs.Header.{sender}
-use Rattle.register.specs.Register.{slotLength, slotsIn, records}
+use Rattle.sizes.specs.Sizes.{slotLength}
+use Rattle.lines.specs.End.{recordOf}
+use Rattle.register.specs.Register.{slotsIn, records}
 use Rattle.verdicts.specs.Verdict.{fileVerdicts, taken}
 use Rattle.hgc.specs.Confirmation.{confirmation}
 use Rattle.holdings.specs.Holdings.{holdings}
@@ -24,7 +26,7 @@ judged register rows h = fileVerdicts rows (records register) h
 
 -- the records that follow
 unfoldable pub following : ℕ → List ℕ → List ℕ → List ℕ → List ℕ → List (List ℕ)
-following mode reception register rows h = holdings mode (sender h) reception (records register) (taken (judged register rows h) h)
+following mode reception register rows h = holdings mode (sender h) (recordOf reception) (records register) (taken (judged register rows h) h)
 
 -- the confirmation that answers the file
 unfoldable pub confirmed : List ℕ → List ℕ → List ℕ → List ℕ → List ℕ

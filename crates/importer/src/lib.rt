@@ -5,14 +5,12 @@ ghost use Rattle.theory.specs.First.{first};
 ghost use Rattle.theory.specs.Pick.{bad};
 ghost use Rattle.theory.specs.Tally.{tally};
 ghost use Rattle.stops.specs.laws.Clear.{Clear};
-ghost use Rattle.hgv.specs.Layout.{linesIn};
+ghost use Rattle.hgv.specs.Layout.{widthOf, linesIn, body};
+ghost use Rattle.register.specs.Register.{records};
+ghost use Rattle.holdings.specs.Places.{placesAfter};
 ghost use Rattle.importer.specs.Import.{judged, roomStops, refusal, success, written, told};
-ghost use Rattle.importer.specs.laws.Accepted.{Accepted};
+ghost use Rattle.importer.specs.laws.Accepted.{NoPlaces, Accepted};
 ghost use Rattle.importer.specs.Promises.{Import};
-
-const SLOT: usize = 128;
-
-const LINES: usize = 8192;
 
 // 0 and the three numbers, or the number of a stop and zero counts.
 pub struct Imported {
@@ -33,7 +31,7 @@ fn refused(number: u64) -> Imported
     }
 }
 
-// Stops 33 and 34.
+// Stops 33 and 34; `found` then tells where the taken lines' PANs stand.
 fn room_stop(
     mode: u64,
     reception: &[u8],
@@ -43,22 +41,27 @@ fn room_stop(
     hgc: &[u8],
     verdicts: &[u8],
     rejected: u64,
+    found: &mut [u16],
 ) -> u64
     requires clear { ⌜ Clear mode (now reception) (now register) (now rows) (now hgv) ⌝ }
     requires verdict { ⌜ now verdicts ≡ judged (now register) (now rows) (now hgv) ⌝ }
     requires counted { ⌜ rejected ≡ tally bad (now verdicts) ⌝ }
-    ensures { λ r. ⌜ r ≡ first (roomStops mode (now (reception .entry)) (now (register .entry)) (now (rows .entry)) (now (hgv .entry)) (now (hgc .entry))) ⌝ }
+    requires many { ⌜ length (now found) ≡ length (now verdicts) ⌝ }
+    ensures stopped { λ r. ⌜ r ≡ first (roomStops mode (now (reception .entry)) (now (register .entry)) (now (rows .entry)) (now (hgv .entry)) (now (hgc .entry))) ⌝ }
+    ensures placed { λ _. ⌜ now (found .exit) ≡ placesAfter mode (records (now (register .entry))) (widthOf (now (hgv .entry))) (body (now (hgv .entry))) (now (verdicts .entry)) (now (found .entry)) ⌝ }
 {
     let used = holdings::used_after(
         mode,
         register,
         header::sender(hgv),
         hgv::body(hgv),
+        hgv::width(hgv),
         verdicts,
+        found,
     );
     let length = hgc::length_for(rejected as usize);
     let s34 = rules::first(hgc.len() < length, 34, 0);
-    rules::first(register.len() / SLOT < used, 33, s34)
+    rules::first(register.len() / sizes::SLOT < used, 33, s34)
 }
 
 // The taken lines applied and the confirmation written: nothing can stop it any more.
@@ -72,8 +75,9 @@ fn carry_out(
     verdicts: &[u8],
     taken: u64,
     rejected: u64,
+    found: &[u16],
 ) -> Imported
-    requires { ⌜ Accepted mode (now reception) (now register) (now rows) (now hgv) (now hgc) (now verdicts) taken rejected ⌝ }
+    requires { ⌜ Accepted mode (now reception) (now register) (now rows) (now hgv) (now hgc) (now verdicts) taken rejected (now found) ⌝ }
     ensures answered { λ r. ⌜ r ≡ success (now (reception .entry)) (now (register .entry)) (now (rows .entry)) (now (hgv .entry)) ⌝ }
     ensures stored { λ _. ⌜ now (register .exit) ≡ written mode (now (reception .entry)) (now (register .entry)) (now (rows .entry)) (now (hgv .entry)) ⌝ }
     ensures confirmed { λ _. ⌜ now (hgc .exit) ≡ told (now (reception .entry)) (now (register .entry)) (now (rows .entry)) (now (hgv .entry)) (now (hgc .entry)) ⌝ }
@@ -84,7 +88,9 @@ fn carry_out(
         header::sender(hgv),
         reception,
         hgv::body(hgv),
+        hgv::width(hgv),
         verdicts,
+        found,
     );
     hgc::write(hgc, reception, hgv, verdicts, taken, rejected);
     let length = hgc::length_for(rejected as usize) as u64;
@@ -105,12 +111,15 @@ fn import_judged(
     hgv: &[u8],
     hgc: &mut [u8],
     verdicts: &[u8],
+    found: &mut [u16],
 ) -> Imported
     requires clear { ⌜ Clear mode (now reception) (now register) (now rows) (now hgv) ⌝ }
     requires verdict { ⌜ now verdicts ≡ judged (now register) (now rows) (now hgv) ⌝ }
+    requires many { ⌜ length (now found) ≡ linesIn (now hgv) ⌝ }
+    requires none { ⌜ NoPlaces (now found) ⌝ }
     ensures { λ r. ⌜ Import mode (now (reception .entry)) (now (register .entry)) (now (rows .entry)) (now (hgv .entry)) (now (hgc .entry)) r (now (register .exit)) (now (hgc .exit)) ⌝ }
 {
-    let taken = verdicts::count_taken(verdicts);
+    let taken = taken::count_taken(verdicts);
     let rejected = verdicts.len() as u64 - taken;
     let room = room_stop(
         mode,
@@ -121,6 +130,7 @@ fn import_judged(
         hgc,
         verdicts,
         rejected,
+        found,
     );
     if room != 0 {
         return refused(room);
@@ -135,10 +145,11 @@ fn import_judged(
         verdicts,
         taken,
         rejected,
+        found,
     )
 }
 
-// The import of a file whose form is right; `verdicts` has a byte for each line.
+// The import of a file whose form is right; `verdicts` has a byte for each line, and `found` a place that is none.
 fn import_lines(
     mode: u64,
     reception: &[u8],
@@ -147,12 +158,16 @@ fn import_lines(
     hgv: &[u8],
     hgc: &mut [u8],
     verdicts: &mut [u8],
+    found: &mut [u16],
 ) -> Imported
-    requires { ⌜ Clear mode (now reception) (now register) (now rows) (now hgv) × (length (now verdicts) ≡ linesIn (now hgv)) ⌝ }
+    requires clear { ⌜ Clear mode (now reception) (now register) (now rows) (now hgv) ⌝ }
+    requires each { ⌜ length (now verdicts) ≡ linesIn (now hgv) ⌝ }
+    requires many { ⌜ length (now found) ≡ linesIn (now hgv) ⌝ }
+    requires none { ⌜ NoPlaces (now found) ⌝ }
     ensures { λ r. ⌜ Import mode (now (reception .entry)) (now (register .entry)) (now (rows .entry)) (now (hgv .entry)) (now (hgc .entry)) r (now (register .exit)) (now (hgc .exit)) ⌝ }
 {
     verdicts::judge(hgv, rows, register, verdicts);
-    import_judged(mode, reception, register, rows, hgv, hgc, verdicts)
+    import_judged(mode, reception, register, rows, hgv, hgc, verdicts, found)
 }
 
 pub fn import(
@@ -169,7 +184,8 @@ pub fn import(
     if form != 0 {
         return refused(form);
     }
-    let mut verdicts = [0u8; LINES];
+    let mut verdicts = [0u8; sizes::LINES_MOST];
+    let mut found = [sizes::NO_PLACE; sizes::LINES_MOST];
     let n = hgv::lines_in(hgv);
     import_lines(
         mode,
@@ -179,5 +195,6 @@ pub fn import(
         hgv,
         hgc,
         &mut verdicts[..n],
+        &mut found[..n],
     )
 }

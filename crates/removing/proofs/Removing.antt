@@ -14,7 +14,7 @@ use Rattle.theory.specs.Scan.{scan, takenNext}
 use Rattle.theory.specs.laws.Scan.{Judged, judged-start, judged-turn, judged-end}
 use Rattle.closing.specs.Closing.{kept, closedUp}
 use Rattle.sizes.specs.Sizes.{slotLength, slotsMost}
-use Rattle.register.specs.Register.{ slotsIn, slotsOf, records, usedIn, usedPart, inOrder}
+use Rattle.register.specs.Register.{slotsIn, slotsOf, records, usedIn, usedPart, inOrder}
 use Rattle.register.specs.Search.{ofActor}
 use Rattle.register.specs.laws.Register.{ordered, used-most, used-fits, records-chop, slots-used}
 use Rattle.holdings.specs.Holdings.{others}

@@ -19,7 +19,7 @@ use Rattle.numbers.specs.laws.Number.{length-decimal}
 use Rattle.columns.specs.Columns.{text}
 use Rattle.hgv.specs.Layout.{linesIn, lengthHolds, linesOf}
 use Rattle.sizes.specs.Sizes.{lineLength, footerLength}
-use Rattle.hgv.specs.laws.Layout.{length-lines, each-line, length-least}
+use Rattle.hgv.specs.laws.Layout.{width-is, length-lines, each-line, length-least}
 use Rattle.header.specs.Header.{sender, listSequence}
 use Rattle.hgc.specs.Confirmation.{headLength, answerLength, confirmationLength, zeros, outcome, names, counts, head, answer, answers, foot, confirmation}
 
@@ -131,5 +131,5 @@ unfolding confirmation
 length-confirmation reception h vs d e n =
     let a : length (head reception h (tally good vs) (tally bad vs)) ≡ headLength = length-head reception h (tally good vs) (tally bad vs) d (omega (arith, length-least h e)) in
     let c : length (answers vs (linesOf h)) ≡ tally bad vs = count-answers vs (linesOf h) (omega (arith, length-lines h)) in
-    let b : length (flat (answers vs (linesOf h))) ≡ tally bad vs * answerLength = length-answers vs (each-line h) ∙ ap (λ (k : ℕ). k * answerLength) c in
+    let b : length (flat (answers vs (linesOf h))) ≡ tally bad vs * answerLength = length-answers vs (rw (width-is h) at (each-line h)) ∙ ap (λ (k : ℕ). k * answerLength) c in
     simp length-append (omega (arith, length-foot))

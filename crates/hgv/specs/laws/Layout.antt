@@ -1,5 +1,5 @@
 -- Laws of the layout and the lines, for those who read an HGV. Assumes nothing.
-use mathlib.Core.Path.{_≡_}
+use mathlib.Core.Path.{_≡_, refl}
 use mathlib.Core.Bool.{Bool, true, _&&_}
 use mathlib.Core.List.{List}
 use Prim.Native.Nat.{ℕ, _+_, _*_, _%_, _≤_}
@@ -30,6 +30,11 @@ module _ (h : List ℕ) where
   pub width-least : lineLength ≤ widthOf h
   unfolding widthOf
   width-least = omega arith
+
+  -- every version has lines of one width
+  pub width-is : widthOf h ≡ lineLength
+  unfolding widthOf
+  width-is = refl
 
   pub width-has : (k : ℕ) → k ≤ lineLength → k ≤ widthOf h
   width-has k l = omega (arith, width-least)

@@ -5,7 +5,7 @@ use native.Mathlib.Omega.{arith}
 use Rattle.stops.specs.laws.Clear.{clear}
 use Rattle.importer.specs.laws.Numbers.{number-form, stop-answer, stop-register, stop-hgc}
 use lib.Seq.{length-take-le}
-use Rattle.importer.proofs.Laws.{lines-in-most}
+use Rattle.importer.proofs.Laws.{lines-in-most, no-places}
 use borrow.Author.Needs.{needs}
 use Rattle.importer.proofs.import.Statement.{statement}
 use Rattle.importer.proofs.import.Tie as tie
@@ -13,27 +13,34 @@ use Rattle.importer.proofs.import.Tie as tie
 returns : tie.Need-returns
 unfolding Import
 returns c =
-    let n = number-form _ _ _ _ _ _ _ (c .before .before .form-stop .ensures) (c .before .if1 .taken) in
-    (c .refused .ensures ∙ stop-answer _ _ _ _ _ _ _ n (c .before .if1 .taken), (stop-register _ _ _ _ _ _ _ n (c .before .if1 .taken), stop-hgc _ _ _ _ _ _ _ n (c .before .if1 .taken)))
+    let k = c .before .if1 .taken in
+    let n = number-form _ _ _ _ _ _ _ (c .before .before .form-stop .ensures) k in
+    (c .refused .ensures ∙ stop-answer _ _ _ _ _ _ _ n k, (stop-register _ _ _ _ _ _ _ n k, stop-hgc _ _ _ _ _ _ _ n k))
 
 array-borrow-prefix-verdicts : tie.Need-array-borrow-prefix-verdicts
-array-borrow-prefix-verdicts c =
-    let x = c .before .before .before .before in
-    lines-in-most _ _ _ _ _ _ (x .form-stop .ensures) (c .before .before .before .if1 .left) _ (c .before .before .lines-in .ensures)
+array-borrow-prefix-verdicts c = lines-in-most _ _ _ _ _ _ (c .before .before .before .before .form-stop .ensures) (c .before .before .before .if1 .left) _ (c .before .before .lines-in .ensures)
 
 slice-aggregate-import-lines : tie.Need-slice-aggregate-import-lines
 slice-aggregate-import-lines c =
-    let x = c .before .before .before in
-    sym (length-take-le _ _ (omega (arith, lines-in-most _ _ _ _ _ _ (x .before .before .form-stop .ensures) (x .before .if1 .left) _ (x .lines-in .ensures))))
+    sym (length-take-le _ _ (omega (arith, lines-in-most _ _ _ _ _ _ (c .before .before .before .before .before .form-stop .ensures) (c .before .before .before .before .if1 .left) _ (c .before .before .before .lines-in .ensures))))
+
+array-borrow-prefix-found : tie.Need-array-borrow-prefix-found
+array-borrow-prefix-found c = lines-in-most _ _ _ _ _ _ (c .before .before .before .before .before .form-stop .ensures) (c .before .before .before .before .if1 .left) _ (c .before .before .before .lines-in .ensures)
+
+slice-aggregate-import-lines-2 : tie.Need-slice-aggregate-import-lines-2
+slice-aggregate-import-lines-2 c =
+    sym (length-take-le _ _ (omega (arith, lines-in-most _ _ _ _ _ _ (c .before .before .before .before .before .before .form-stop .ensures) (c .before .before .before .before .before .if1 .left) _ (c .before .before .before .before .lines-in .ensures))))
 
 import-lines-requires : tie.Need-import-lines-requires
 import-lines-requires c κs =
-    let x = c .before .before .before in
-    let m = lines-in-most _ _ _ _ _ _ (x .before .before .form-stop .ensures) (x .before .if1 .left) _ (x .lines-in .ensures) in
-    (clear _ _ _ _ _ (sym (x .before .before .form-stop .ensures) ∙ x .before .if1 .left), length-take-le _ _ (omega (arith, m)) ∙ x .lines-in .ensures)
+    let n = c .before .before .before .before .lines-in .ensures in
+    let form = c .before .before .before .before .before .before .form-stop .ensures in
+    let left = c .before .before .before .before .before .if1 .left in
+    let m = lines-in-most _ _ _ _ _ _ form left _ n in
+    (clear _ _ _ _ _ (sym form ∙ left), (length-take-le _ _ (omega (arith, m)) ∙ n, (length-take-le _ _ (omega (arith, m)) ∙ n, no-places _ m)))
 
 returns-2 : tie.Need-returns-2
-returns-2 c = c .before .before .before .before .before .import-lines .ensures
+returns-2 c = c .before .before .before .before .before .before .import-lines .ensures
 
 pub import-spec : {M : Type 1} → statement M
 import-spec =
@@ -46,6 +53,8 @@ import-spec =
     (λ c κs. search needs)
     array-borrow-prefix-verdicts
     slice-aggregate-import-lines
+    array-borrow-prefix-found
+    slice-aggregate-import-lines-2
     import-lines-requires
     (λ c. search needs)
     (λ c. search needs)

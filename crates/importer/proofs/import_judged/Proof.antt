@@ -2,7 +2,7 @@
 use Rattle.importer.specs.Promises.{Import}
 use mathlib.Core.Path.{sym, _∙_}
 use Rattle.importer.specs.laws.Numbers.{number-room, stop-answer, stop-register, stop-hgc, done-answer, done-register, done-hgc}
-use Rattle.importer.proofs.Laws.{taken-most, room-asks, accepts}
+use Rattle.importer.proofs.Laws.{taken-most, rest-rejected, as-many, accepts}
 use borrow.Author.Needs.{needs}
 use Rattle.importer.proofs.import_judged.Statement.{statement}
 use Rattle.importer.proofs.import_judged.Tie as tie
@@ -12,30 +12,28 @@ sub-rejected c = taken-most _ _ (c .count-taken .ensures)
 
 room-stop-requires : tie.Need-room-stop-requires
 room-stop-requires c κs =
-    let p = c .before .before .before .before .before .before .before .before .before .pre in
-    room-asks _ _ _ _ _ _ (p .0) (p .1) _ (c .before .before .count-taken .ensures)
+    let (clear, (verdicts, (many, _))) = c .before .before .before .before .before .before .before .before .before .before .before .pre in
+    (clear, (verdicts, (rest-rejected _ _ (c .before .before .before .count-taken .ensures), as-many _ _ _ _ _ _ clear verdicts _ many)))
 
 returns : tie.Need-returns
 unfolding Import
 returns c =
-    let p = c .before .before .before .before .before .before .before .before .before .before .before .before .pre in
-    let n = number-room _ _ _ _ _ _ (p .0) _ (c .before .before .room-stop .ensures) in
-    (c .refused .ensures ∙ stop-answer _ _ _ _ _ _ _ n (c .before .if1 .taken), (stop-register _ _ _ _ _ _ _ n (c .before .if1 .taken), stop-hgc _ _ _ _ _ _ _ n (c .before .if1 .taken)))
+    let n = number-room _ _ _ _ _ _ (c .before .before .before .before .before .before .before .before .before .before .before .before .before .before .before .before .pre .0) _ (c .before .before .before .before .room-stop .ensures .0) in
+    let k = c .before .if1 .taken in
+    (c .refused .ensures ∙ stop-answer _ _ _ _ _ _ _ n k, (stop-register _ _ _ _ _ _ _ n k, stop-hgc _ _ _ _ _ _ _ n k))
 
 carry-out-requires : tie.Need-carry-out-requires
 carry-out-requires c κs =
-    let p = c .before .before .before .before .before .before .before .before .before .before .before .before .before .pre in
-    let x = c .before .before .before in
-    accepts _ _ _ _ _ _ (p .0) (p .1) _ _ (x .before .before .before .count-taken .ensures) _ (x .room-stop .ensures) (c .before .before .if1 .left)
+    let (clear, (verdicts, (many, none))) = c .before .before .before .before .before .before .before .before .before .before .before .before .before .before .before .before .before .before .pre in
+    let (stopped, placed) = c .before .before .before .before .before .before .room-stop .ensures in
+    accepts _ _ _ _ _ _ clear verdicts _ _ none many placed _ _ (c .before .before .before .before .before .before .before .before .before .before .count-taken .ensures) _ stopped (c .before .before .before .if1 .left)
 
 returns-2 : tie.Need-returns-2
 unfolding Import
 returns-2 c =
-    let x = c .before .before .before .before in
-    let y = x .before .before .before in
-    let p = y .before .before .before .before .before .before .before .before .before .before .before .pre in
-    let n = sym (number-room _ _ _ _ _ _ (p .0) _ (y .before .room-stop .ensures)) ∙ y .if1 .left in
-    (x .carry-out .ensures .0 ∙ done-answer _ _ _ _ _ _ n, (x .carry-out .ensures .1 .0 ∙ done-register _ _ _ _ _ _ n, x .carry-out .ensures .1 .1 ∙ done-hgc _ _ _ _ _ _ n))
+    let n = sym (number-room _ _ _ _ _ _ (c .before .before .before .before .before .before .before .before .before .before .before .before .before .before .before .before .before .before .before .before .before .before .before .pre .0) _ (c .before .before .before .before .before .before .before .before .before .before .before .room-stop .ensures .0)) ∙ c .before .before .before .before .before .before .before .before .if1 .left in
+    let (answered, (stored, confirmed)) = c .before .before .before .before .carry-out .ensures in
+    (answered ∙ done-answer _ _ _ _ _ _ n, (stored ∙ done-register _ _ _ _ _ _ n, confirmed ∙ done-hgc _ _ _ _ _ _ n))
 
 pub import-judged-spec : {M : Type 1} → statement M
 import-judged-spec =
@@ -47,8 +45,10 @@ import-judged-spec =
     (λ c κs. search needs)
     (λ c. search needs)
     (λ c. search needs)
+    (λ c. search needs)
     returns
     carry-out-requires
+    (λ c. search needs)
     (λ c. search needs)
     (λ c. search needs)
     returns-2)

@@ -5,16 +5,16 @@ use Rattle.importer.proofs.import_lines.Statement.{statement}
 use Rattle.importer.proofs.import_lines.Tie as tie
 
 judge-requires : tie.Need-judge-requires
-judge-requires c κs = c .before .before .before .before .before .before .before .before .pre .1
+judge-requires c κs = c .before .before .before .before .before .before .before .before .before .pre .1 .0
 
 import-judged-requires : tie.Need-import-judged-requires
 unfolding judged
 import-judged-requires c κs =
-    let x = c .before .before .before .before .before in
-    (x .before .before .before .before .before .before .before .before .before .pre .0, x .judge .ensures)
+    let (clear, (_, (many, none))) = c .before .before .before .before .before .before .before .before .before .before .before .before .before .before .before .before .pre in
+    (clear, (c .before .before .before .before .before .before .judge .ensures, (many, none)))
 
 returns : tie.Need-returns
-returns c = c .before .before .before .before .import-judged .ensures
+returns c = c .before .before .before .before .before .before .import-judged .ensures
 
 pub import-lines-spec : {M : Type 1} → statement M
 import-lines-spec =
@@ -22,6 +22,7 @@ import-lines-spec =
     (tie.spec
     judge-requires
     import-judged-requires
+    (λ c. search needs)
     (λ c. search needs)
     (λ c. search needs)
     (λ c. search needs)

@@ -3,13 +3,12 @@
 use mathlib.Core.Path.{_≡_, ap, _∙_}
 use mathlib.Core.Bool.{true, false}
 use mathlib.Core.List.{List, map}
-use Prim.Native.Nat.{ℕ, _*_, _≤_}
+use Prim.Native.Nat.{ℕ, _*_, _≤_, _<_}
 use native.Mathlib.Omega.{arith}
-use lib.ListN.{length}
+use lib.ListN.{length, getD}
 use Rattle.theory.specs.Each.{Each}
 use Rattle.theory.specs.laws.Each.{each-map}
-use Rattle.theory.specs.Parts.{chop}
-use Rattle.theory.specs.Pick.{good, bad, pick}
+use Rattle.theory.specs.Pick.{good, bad}
 use Rattle.theory.specs.Tally.{tally}
 use Rattle.theory.specs.Distinct.{distinct}
 use Rattle.times.specs.laws.Moment.{real-length}
@@ -17,10 +16,9 @@ use Rattle.columns.specs.Columns.{panOf}
 use Rattle.lines.specs.Rules.{recordHolds, L2}
 use Rattle.lines.specs.Faultless.{Faultless}
 use Rattle.lines.specs.laws.Faultless.{faultless-record}
-use Rattle.records.specs.laws.Written.{record-front}
-use Rattle.records.specs.laws.Holds.{record-long}
-use Rattle.hgv.specs.Layout.{linesIn, body, linesOf}
-use Rattle.sizes.specs.Sizes.{lineLength, linesMost}
+use Rattle.lines.specs.End.{recordOf}
+use Rattle.sizes.specs.Sizes.{slotsMost, linesMost}
+use Rattle.hgv.specs.Layout.{widthOf, linesIn, body, linesOf}
 use Rattle.hgv.specs.laws.Layout.{lines-room, lines-most}
 use Rattle.header.specs.Header.{sender}
 use Rattle.header.specs.laws.Header.{header-sender}
@@ -30,6 +28,10 @@ use Rattle.verdicts.specs.Verdict.{taken}
 use Rattle.verdicts.specs.laws.Verdict.{length-verdicts, each-faultless, each-free, taken-apart}
 use Rattle.hgc.specs.Confirmation.{confirmationLength}
 use Rattle.hgc.specs.laws.Confirmation.{length-confirmation}
+use Rattle.taken.specs.Taken.{takenIn}
+use Rattle.upkeep.specs.Makes.{Makes}
+use Rattle.upkeep.specs.laws.Makes.{record-makes}
+use Rattle.applying.specs.Fit.{Sought}
 use Rattle.holdings.specs.Room.{usedAfter}
 use Rattle.holdings.specs.laws.Room.{used-after}
 use Rattle.stops.specs.laws.Clear.{Clear}
@@ -62,12 +64,15 @@ module _ (mode : ℕ) (reception register rows h : List ℕ) (c : Clear mode rec
   unfolding judged
   lines-free = each-free rows (records register) h
 
+  -- their records have their PANs and actors
+  pub lines-made : Each (Makes (recordOf reception)) ls
+  lines-made = each-map (λ l r. record-makes reception (c .received) l r) lines-hold
+
   -- the number of records that follow, as it is reckoned
   pub following-used : usedAfter mode (sender h) (records register) ls ≡ length (following mode reception register rows h)
   unfolding following
   following-used =
-      used-after reception mode (sender h) (records register) ls
-      (each-map (λ l r. record-front reception l (record-long l r) (real-length reception (c .received)) 14 32 (omega arith) (omega arith) (omega arith)) lines-hold) lines-apart
+      used-after (recordOf reception) mode (sender h) (records register) ls (each-map (λ l m. m .pan) lines-made) lines-apart
 
   -- ---- as the code has them: vs are the verdicts
 
@@ -76,14 +81,14 @@ module _ (mode : ℕ) (reception register rows h : List ℕ) (c : Clear mode rec
     unfolding judged
     verdict-each = ap length e ∙ length-verdicts rows (records register) h
 
-    pub lines-there : length vs * lineLength ≤ length (body h)
+    pub lines-there : length vs * widthOf h ≤ length (body h)
     lines-there = rw verdict-each (lines-room h)
 
     pub verdicts-most : length vs ≤ linesMost
     verdicts-most = omega (arith, verdict-each, lines-most h (c .sized))
 
     -- the lines that the body's parts are
-    pub lines-are : pick good vs (chop lineLength (length vs) (body h)) ≡ ls
+    pub lines-are : takenIn (widthOf h) vs (body h) ≡ ls
     unfolding taken linesOf
     lines-are = rw (verdict-each, e)
 
@@ -91,11 +96,16 @@ module _ (mode : ℕ) (reception register rows h : List ℕ) (c : Clear mode rec
     unfolding confirmed
     confirmed-length r f = rw (← e, f) (length-confirmation reception h vs (real-length reception (c .received)) (c .sized) verdict-each)
 
+-- no number of the block is a place
+pub record NoPlaces (found : List ℕ) : Type 0 where
+  pub none : (i : ℕ) → i < length found → getD found i 0 ≡ slotsMost
+
 -- the file's form is right, its lines are judged, and there is room for what follows
-pub record Accepted (mode : ℕ) (reception register rows h hgc vs : List ℕ) (t r : ℕ) : Type 0 where
+pub record Accepted (mode : ℕ) (reception register rows h hgc vs : List ℕ) (t r : ℕ) (found : List ℕ) : Type 0 where
   pub clear : Clear mode reception register rows h
   pub verdicts : vs ≡ judged register rows h
   pub taken-are : t ≡ tally good vs
   pub rejected-are : r ≡ tally bad vs
   pub slots : length (following mode reception register rows h) ≤ slotsIn register
   pub buffer : length (confirmed reception register rows h) ≤ length hgc
+  pub sought : Sought mode (records register) (widthOf h) (body h) vs found

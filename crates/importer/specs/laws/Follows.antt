@@ -12,6 +12,7 @@ use Rattle.numbers.specs.Number.{number}
 use Rattle.header.specs.Header.{sender, count}
 use Rattle.claims.specs.Claims.{countHolds}
 use Rattle.hgv.specs.Layout.{linesIn}
+use Rattle.lines.specs.End.{recordOf}
 use Rattle.register.specs.Register.{slotsIn, records}
 use Rattle.register.specs.Search.{ofActor}
 use Rattle.verdicts.specs.Verdict.{taken}
@@ -24,7 +25,7 @@ use Rattle.applying.specs.laws.Follows.{follows}
 use Rattle.applying.specs.laws.Others.{others-stay, places-stay}
 use Rattle.stops.specs.laws.Clear.{Clear}
 use Rattle.importer.specs.Import.{judged, following, numberOf, written}
-use Rattle.importer.specs.laws.Accepted.{lines-hold, lines-his, lines-apart, lines-free}
+use Rattle.importer.specs.laws.Accepted.{lines-made, lines-his, lines-apart, lines-free}
 use Rattle.importer.specs.laws.Numbers.{accepted-clear, accepted-room}
 
 module _ (mode : ℕ) (reception register rows h hgc : List ℕ) (e : numberOf mode reception register rows h hgc ≡ 0) where
@@ -36,12 +37,11 @@ module _ (mode : ℕ) (reception register rows h hgc : List ℕ) (e : numberOf m
   unfolding judged countHolds
   adds-up = taken-rejected rows (records register) h ∙ sym (eqb-true (number (count h)) (linesIn h) (c .counted))
 
-  pub fit : Fit mode (sender h) reception (slotsIn register) (records register) (taken (judged register rows h) h)
+  pub fit : Fit mode (sender h) (recordOf reception) (slotsIn register) (records register) (taken (judged register rows h) h)
   unfolding following
   fit =
       record {
-        received = c .received;
-        lined = lines-hold mode reception register rows h c;
+        made = lines-made mode reception register rows h c;
         apart = lines-apart mode reception register rows h c;
         free = lines-free mode reception register rows h c;
         room = accepted-room mode reception register rows h hgc e .slots;
@@ -50,15 +50,15 @@ module _ (mode : ℕ) (reception register rows h hgc : List ℕ) (e : numberOf m
   -- in order, and the records are those that follow
   pub holds-following : Holds (slotsIn register) (following mode reception register rows h) (written mode reception register rows h)
   unfolding following written
-  holds-following = follows mode (sender h) reception register (taken (judged register rows h) h) (c .ordered) fit
+  holds-following = follows mode (sender h) (recordOf reception) register (taken (judged register rows h) h) (c .ordered) fit
 
   -- the other providers' records are the same sequence
   pub others-same : others (sender h) (following mode reception register rows h) ≡ others (sender h) (records register)
   unfolding following
-  others-same = others-stay mode (sender h) reception (slotsIn register) (records register) (taken (judged register rows h) h) fit (lines-his mode reception register rows h c)
+  others-same = others-stay mode (sender h) (recordOf reception) (slotsIn register) (records register) (taken (judged register rows h) h) fit (lines-his mode reception register rows h c)
 
   -- in mode 1 also in the same slots
   pub places-same : isFull mode ≡ false → (i : ℕ) → i < length (records register) → ofActor (sender h) (getD (records register) i []) ≡ false
       → getD (following mode reception register rows h) i [] ≡ getD (records register) i []
   unfolding following
-  places-same = places-stay mode (sender h) reception (slotsIn register) (records register) (taken (judged register rows h) h) fit (lines-his mode reception register rows h c)
+  places-same = places-stay mode (sender h) (recordOf reception) (slotsIn register) (records register) (taken (judged register rows h) h) fit (lines-his mode reception register rows h c)
