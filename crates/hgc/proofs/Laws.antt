@@ -21,7 +21,7 @@ use Rattle.numbers.specs.Number.{decimal}
 use Rattle.numbers.specs.laws.Number.{length-decimal}
 use Rattle.columns.specs.Columns.{text}
 use Rattle.hgv.specs.Layout.{linesIn, lengthHolds, body, linesOf}
-use Rattle.hgv.specs.laws.Layout.{width-is, lines-room, each-line, length-least}
+use Rattle.hgv.specs.laws.Layout.{width-is, lines-room, each-lined, length-least}
 use Rattle.header.specs.Header.{sender, listSequence}
 use Rattle.hgc.specs.Confirmation.{confirmationLength, zeros, outcome, names, counts, head, answer, answers, foot, confirmation}
 use Rattle.hgc.specs.laws.Confirmation.{said, length-zeros, length-outcome, length-names, length-counts, length-answer, length-foot, answers-none, answers-most, answers-more, length-answers}
@@ -172,7 +172,7 @@ module _ (h vs b s₂ s₃ : List ℕ) (q : ℕ) (eb : b ≡ body h) (v : Laid 1
   lines-laid = rw (each, eb, ← width-is h) at v
 
   foot-place : q ≤ 111 + tally bad vs * 130
-  foot-place = omega (arith, lines-laid .behind, length-answers vs (rw (width-is h) at (each-line h)), answers-most vs (linesOf h))
+  foot-place = omega (arith, lines-laid .behind, length-answers vs (each-lined h), answers-most vs (linesOf h))
 
   pub foot-fits : confirmationLength (tally bad vs) ≤ length s₂ → (1 ≤ q) × (q - 1 + 64 ≤ length s₃)
   foot-fits r = let n : length s₃ ≡ length s₂ = laid-length 111 q _ s₂ s₃ v in (omega (arith, v .behind), omega (arith, v .behind, foot-place))

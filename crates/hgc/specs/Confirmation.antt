@@ -11,18 +11,15 @@ use Rattle.texts.specs.Field.{lineEnd}
 use Rattle.numbers.specs.Number.{decimal}
 use Rattle.columns.specs.Columns.{text}
 use Rattle.hgv.specs.Layout.{linesOf}
-use Rattle.sizes.specs.Sizes.{footerLength}
+use Rattle.sizes.specs.Sizes.{lineLength, footerLength, hgcHeaderLength, reasonLength}
 use Rattle.header.specs.Header.{sender, listSequence}
 
-abbrev pub headLength : ℕ
-headLength = 110
-
 abbrev pub answerLength : ℕ
-answerLength = 130
+answerLength = lineLength + reasonLength
 
 -- as long as 110 + 130 x rejected + 64
 abbrev pub confirmationLength : ℕ → ℕ
-confirmationLength rejected = headLength + rejected * answerLength + footerLength
+confirmationLength rejected = hgcHeaderLength + rejected * answerLength + footerLength
 
 unfoldable pub zeros : ℕ → List ℕ
 zeros n = replicate n 48

@@ -12,24 +12,16 @@ ghost use Rattle.theory.specs.Join.{flat};
 ghost use Rattle.writing.specs.Put.{putField};
 ghost use Rattle.writing.specs.laws.Laid.{Laid};
 ghost use Rattle.hgv.specs.Layout.{linesIn, lengthHolds};
-ghost use Rattle.sizes.specs.Sizes.{headerLength, lineLength, footerLength, linesMost};
-ghost use Rattle.hgc.specs.Confirmation.{headLength, answerLength, confirmationLength, zeros, outcome, names, counts, answer, answers, foot};
+ghost use Rattle.sizes.specs.Sizes.{headerLength, lineLength, footerLength, linesMost, hgcHeaderLength};
+ghost use Rattle.hgc.specs.Confirmation.{answerLength, confirmationLength, zeros, outcome, names, counts, answer, answers, foot};
 ghost use Rattle.hgc.specs.laws.Confirmation.{said};
 ghost use Rattle.hgc.specs.Promises.{Write, LengthFor};
 
-const HEADER: usize = 110;
+// A line of it is longer than the HGV's by its reason.
+const LINE: usize = sizes::LINE + sizes::REASON;
 
-const LINE: usize = 130;
-
-const FOOTER: usize = 64;
-
-// A line of the HGV.
-const LINE_SENT: usize = 128;
-
-// The digits of a count, and of a reason.
+// The digits of a count.
 const COUNT: usize = 15;
-
-const REASON: usize = 2;
 
 // The zeros of header and footer.
 const HEADER_ZEROS: usize = 25;
@@ -74,7 +66,7 @@ fn put_outcome(hgc: &mut [u8], rejected: u64)
 
 // The header from the counts on.
 fn put_counts(hgc: &mut [u8], taken: u64, rejected: u64)
-    requires { ⌜ headLength ≤ length (now hgc) ⌝ }
+    requires { ⌜ hgcHeaderLength ≤ length (now hgc) ⌝ }
     ensures { λ _. ⌜ now (hgc .exit) ≡ putField 47 (counts taken rejected) (now (hgc .entry)) ⌝ }
 {
     numbers::put_number(hgc, places::TAKEN_FROM, COUNT, taken);
@@ -93,7 +85,7 @@ fn put_answer(hgc: &mut [u8], from: usize, line: &[u8], reason: u8)
     let text = texts::field(line, places::TEXT_FROM, places::TEXT_TO);
     writing::put_field(hgc, at + places::LINE_TYPE, b"1");
     writing::put_field(hgc, at + places::TEXT_FROM, text);
-    numbers::put_number(hgc, at + places::REASON_FROM, REASON, reason as u64);
+    numbers::put_number(hgc, at + places::REASON_FROM, sizes::REASON, reason as u64);
     writing::put_field(hgc, at + places::LINE_END, b"\n");
 }
 
@@ -112,13 +104,13 @@ fn answer_line(hgc: &mut [u8], from: usize, line: &[u8], verdict: u8) -> usize
 // The answers behind the header; the position behind them.
 fn put_answers(hgc: &mut [u8], lines: &[u8], verdicts: &[u8]) -> usize
     requires lined { ⌜ length (now verdicts) * lineLength ≤ length (now lines) ⌝ }
-    requires room { ⌜ headLength + tally bad (now verdicts) * answerLength ≤ length (now hgc) ⌝ }
+    requires room { ⌜ hgcHeaderLength + tally bad (now verdicts) * answerLength ≤ length (now hgc) ⌝ }
     ensures { λ r. ⌜ Laid 111 r (flat (answers (now (verdicts .entry)) (chop lineLength (length (now (verdicts .entry))) (now (lines .entry))))) (now (hgc .entry)) (now (hgc .exit)) ⌝ }
 {
-    let mut behind = HEADER + 1;
+    let mut behind = sizes::HGC_HEADER + 1;
     let mut i: usize = 0;
     while i < verdicts.len() {
-        behind = answer_line(hgc, behind, texts::part(lines, LINE_SENT, i), verdicts[i]);
+        behind = answer_line(hgc, behind, texts::part(lines, sizes::LINE, i), verdicts[i]);
         i += 1;
     }
     behind
@@ -162,5 +154,5 @@ pub fn length_for(rejected: usize) -> usize
     requires { ⌜ rejected ≤ linesMost ⌝ }
     ensures { λ r. ⌜ LengthFor rejected r ⌝ }
 {
-    HEADER + rejected * LINE + FOOTER
+    sizes::HGC_HEADER + rejected * LINE + sizes::FOOTER
 }

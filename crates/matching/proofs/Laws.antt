@@ -22,7 +22,7 @@ use Rattle.texts.specs.Field.{field}
 use Rattle.texts.specs.laws.Field.{field-field}
 use Rattle.numbers.specs.Number.{number}
 use Rattle.columns.specs.Columns.{text, panOf}
-use Rattle.hgv.specs.Layout.{linesIn, body, linesOf}
+use Rattle.hgv.specs.Layout.{widthOf, linesIn, body, linesOf}
 use Rattle.sizes.specs.Sizes.{lineLength}
 use Rattle.hgv.specs.laws.Layout.{lines-room, length-lines}
 use Rattle.hgc.specs.Confirmation.{answerLength}
@@ -103,10 +103,11 @@ length-marked h g ms e = rw e (length-paired (copiesOf g) (map text (linesOf h))
 
 module _ (h g lines answers : List ℕ) (m n : ℕ) (b : lines ≡ body h) (a : answers ≡ behindHead g) (k : n ≡ answersIn g) (sized : m ≡ linesIn h) where
   pub pair-room : (m * lineLength ≤ length lines) × (n * answerLength ≤ length answers)
+  unfolding widthOf
   pair-room = (rw (b, sized) (lines-room h), answers-room g answers n a k)
 
   texts-are : textsIn lineLength m lines ≡ textsOf h
-  unfolding textsIn textsOf linesOf
+  unfolding textsIn textsOf linesOf widthOf
   texts-are = rw (b, sized)
 
   copies-are : textsIn answerLength n answers ≡ copiesOf g
@@ -130,6 +131,7 @@ module _ (h g lines answers : List ℕ) (m n : ℕ) (b : lines ≡ body h) (a : 
 
 module _ (h g lines ms : List ℕ) (b : lines ≡ body h) (e : ms ≡ paired (textsOf h) (copiesOf g)) where
   pub marks-room : length ms * lineLength ≤ length lines
+  unfolding widthOf
   marks-room = rw (b, length-marked h g ms e) (lines-room h)
 
   module _ (p : copiesHold h g ≡ true) where
@@ -137,7 +139,7 @@ module _ (h g lines ms : List ℕ) (b : lines ≡ body h) (e : ms ≡ paired (te
     are-marks = e ∙ pair-marks h g (sym (copies-pair h g) ∙ p)
 
     are-taken : pick good ms (chop lineLength (length ms) lines) ≡ takenBy h g
-    unfolding takenBy linesOf
+    unfolding takenBy linesOf widthOf
     are-taken = rw (length-marked h g ms e, b, are-marks)
 
   -- c says whether the copies are the lines left, t counts the marks 0, and u, d and q are what the other tests said

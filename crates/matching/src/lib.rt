@@ -67,7 +67,7 @@ fn pair(lines: &[u8], answers: &[u8], n: usize, marks: &mut [u8]) -> usize
     let mut i = marks.len();
     while 0 < i {
         i -= 1;
-        let m = mark(answers, k, texts::part(lines, hgv::LINE, i));
+        let m = mark(answers, k, texts::part(lines, sizes::LINE, i));
         marks[i] = m;
         k = k - m as usize;
     }
@@ -81,7 +81,7 @@ fn are_firsts(lines: &[u8], marks: &[u8]) -> bool
 {
     ordering::are_firsts(
         lines,
-        hgv::LINE,
+        sizes::LINE,
         hgc::places::TEXT_FROM,
         hgc::places::TEXT_TO,
         marks,
@@ -93,7 +93,7 @@ fn are_apart(lines: &[u8], marks: &[u8]) -> bool
     requires { ⌜ length (now marks) * lineLength ≤ length (now lines) ⌝ }
     ensures { λ r. ⌜ r ≡ distinct (map panOf (pick good (now (marks .entry)) (chop lineLength (length (now (marks .entry))) (now (lines .entry))))) ⌝ }
 {
-    ordering::are_apart(lines, hgv::LINE, columns::PAN_FROM, columns::PAN_TO, marks)
+    ordering::are_apart(lines, sizes::LINE, columns::PAN_FROM, columns::PAN_TO, marks)
 }
 
 // Has a line the sender for its actor, and keeps it L1, L5 to L10.
@@ -111,7 +111,7 @@ fn each_holds(hgv: &[u8], lines: &[u8], marks: &[u8]) -> bool
 {
     let mut i: usize = 0;
     while i < marks.len() {
-        let holds = line_holds(hgv, texts::part(lines, hgv::LINE, i));
+        let holds = line_holds(hgv, texts::part(lines, sizes::LINE, i));
         if (marks[i] == 0) & !holds {
             return false;
         }
@@ -149,7 +149,7 @@ pub fn lines_hold(hgv: &[u8], hgc: &[u8], marks: &mut [u8]) -> bool
     let copied = copies_hold(hgv, hgc, marks);
     let lines = hgv::body(hgv);
     copied
-        & has_counts(hgc, verdicts::count_taken(marks), receipts::answers_in(hgc))
+        & has_counts(hgc, taken::count_taken(marks), receipts::answers_in(hgc))
         & are_apart(lines, marks)
         & each_holds(hgv, lines, marks)
 }

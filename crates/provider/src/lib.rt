@@ -46,7 +46,7 @@ fn count(hgv: &[u8], hgc: &[u8], marks: &[u8]) -> Counted
     requires { ⌜ now marks ≡ marksOf (now hgv) (now hgc) ⌝ }
     ensures { λ r. ⌜ r ≡ counted (now (hgv .entry)) (now (hgc .entry)) ⌝ }
 {
-    let taken = verdicts::count_taken(marks);
+    let taken = taken::count_taken(marks);
     let rejected = receipts::answers_in(hgc) as u64;
     Counted {
         number: 0,

@@ -13,7 +13,8 @@ use Rattle.theory.specs.Text.{bytes}
 use Rattle.theory.specs.Same.{eqs}
 use Rattle.theory.specs.Walk.{each}
 use Rattle.texts.specs.Field.{field}
-use Rattle.hgc.specs.Confirmation.{headLength, answerLength, outcome}
+use Rattle.hgc.specs.Confirmation.{answerLength, outcome}
+use Rattle.sizes.specs.Sizes.{hgcHeaderLength}
 use Rattle.times.specs.Time.{realTime}
 use Rattle.frames.specs.Frames.{footerHolds}
 use Rattle.receipts.specs.Receipt.{
@@ -34,13 +35,13 @@ use Rattle.receipts.specs.Receipt.{
 
 module _ (g : List ℕ) where
   -- the lines as the code lends them
-  pub lines-none : length g < headLength → take 0 (drop 0 g) ≡ behindHead g
+  pub lines-none : length g < hgcHeaderLength → take 0 (drop 0 g) ≡ behindHead g
   unfolding behindHead
-  lines-none l = sym (drop-of-length-le g {i = headLength} (omega arith))
+  lines-none l = sym (drop-of-length-le g {i = hgcHeaderLength} (omega arith))
 
-  pub lines-lent : take (length g - headLength) (drop headLength g) ≡ behindHead g
+  pub lines-lent : take (length g - hgcHeaderLength) (drop hgcHeaderLength g) ≡ behindHead g
   unfolding behindHead
-  lines-lent = take-all (length g - headLength) (drop headLength g) (rw length-drop (omega arith))
+  lines-lent = take-all (length g - hgcHeaderLength) (drop hgcHeaderLength g) (rw length-drop (omega arith))
 
   -- a text too short for header and footer
   pub answers-short : length g < bareLength → 0 ≡ answersIn g

@@ -20,17 +20,17 @@ use Rattle.columns.specs.Columns.{text, panOf}
 use Rattle.lines.specs.Rules.{recordHolds}
 use Rattle.register.specs.Search.{ofActor}
 use Rattle.hgv.specs.Layout.{linesOf}
-use Rattle.sizes.specs.Sizes.{footerLength}
+use Rattle.sizes.specs.Sizes.{footerLength, hgcHeaderLength}
 use Rattle.frames.specs.Frames.{footerHolds}
 use Rattle.header.specs.Header.{sender, listSequence}
-use Rattle.hgc.specs.Confirmation.{headLength, answerLength, outcome}
+use Rattle.hgc.specs.Confirmation.{answerLength, outcome}
 use Rattle.pairing.specs.Pairing.{marks, left}
 
 -- ---- its layout
 
 -- what an HGC has beside its lines
 abbrev pub bareLength : ℕ
-bareLength = headLength + footerLength
+bareLength = hgcHeaderLength + footerLength
 
 -- the number of its lines, r
 unfoldable pub answersIn : List ℕ → ℕ
@@ -38,7 +38,7 @@ answersIn g = (length g - bareLength) / answerLength
 
 -- what stands behind the header: its lines, and the footer
 unfoldable pub behindHead : List ℕ → List ℕ
-behindHead g = drop headLength g
+behindHead g = drop hgcHeaderLength g
 
 unfoldable pub answersOf : List ℕ → List (List ℕ)
 answersOf g = chop answerLength (answersIn g) (behindHead g)

@@ -7,12 +7,11 @@ ghost use Rattle.theory.specs.Walk.{each};
 ghost use Rattle.receipts.specs.Receipt.{answersOf, lengthForm, headForm, answerForm, namesHold, outcomeHolds, reasonHolds};
 ghost use Rattle.receipts.specs.Promises.{AnswersIn, Answers, Reception, Says};
 
-const HEADER: usize = 110;
-
-pub const LINE: usize = 130;
+// A line of it is longer than the HGV's by its reason.
+pub const LINE: usize = sizes::LINE + sizes::REASON;
 
 // Header and footer.
-const BARE: usize = HEADER + hgv::FOOTER;
+const BARE: usize = sizes::HGC_HEADER + sizes::FOOTER;
 
 // How many lines it has.
 pub fn answers_in(hgc: &[u8]) -> usize
@@ -28,10 +27,10 @@ pub fn answers_in(hgc: &[u8]) -> usize
 pub fn answers<'a>(hgc: &'a [u8]) -> &'a [u8]
     ensures { λ r. ⌜ Answers (now (hgc .entry)) (now r) ⌝ }
 {
-    if hgc.len() < HEADER {
+    if hgc.len() < sizes::HGC_HEADER {
         return &hgc[0..0];
     }
-    &hgc[HEADER..]
+    &hgc[sizes::HGC_HEADER..]
 }
 
 pub fn reception<'a>(hgc: &'a [u8]) -> &'a [u8]

@@ -24,7 +24,7 @@ use Rattle.times.specs.laws.Moment.{real-length}
 use Rattle.columns.specs.Columns.{text, panOf}
 use Rattle.hgv.specs.Layout.{linesIn, linesOf}
 use Rattle.sizes.specs.Sizes.{lineLength, linesMost}
-use Rattle.hgv.specs.laws.Layout.{length-lines, each-line, lines-most}
+use Rattle.hgv.specs.laws.Layout.{length-lines, each-lined, lines-most}
 use Rattle.frames.specs.Frames.{framed, framesHold}
 use Rattle.frames.specs.laws.Frames.{framed-is}
 use Rattle.header.specs.Header.{sender}
@@ -65,7 +65,7 @@ line-is l (f, n) = sym (framed-is lineLength l f n (omega arith))
 pub lines-made : (h : List ℕ) → framesHold h ≡ true → map line (textsOf h) ≡ linesOf h
 unfolding framesHold textsOf
 lines-made h f =
-    map-map line text (linesOf h) ∙ map-fixed (λ l. line (text l)) (each-map line-is (each-both (each-passes (framed lineLength) (linesOf h) f) (each-line h)))
+    map-map line text (linesOf h) ∙ map-fixed (λ l. line (text l)) (each-map line-is (each-both (each-passes (framed lineLength) (linesOf h) f) (each-lined h)))
 
 module _ (mode : ℕ) (reception register rows h hgc : List ℕ) (e : numberOf mode reception register rows h hgc ≡ 0) where
   -- the verdicts, and the HGC
@@ -158,7 +158,7 @@ module _ (mode : ℕ) (reception register rows h hgc : List ℕ) (e : numberOf m
       rw (answers-of reception h vs dated (c .sized) one-each)
       (passes-each reasonHolds
       (each-answered reason-holds
-      (each-verdict judge (verdict-named rows (sender h) (records register)) [] (linesOf h)) (each-line h)))
+      (each-verdict judge (verdict-named rows (sender h) (records register)) [] (linesOf h)) (each-lined h)))
 
   -- two digits are enough for each
   reasons-read : map (λ v. number (decimal 2 v)) (pick bad vs vs) ≡ pick bad vs vs
@@ -174,7 +174,7 @@ module _ (mode : ℕ) (reception register rows h hgc : List ℕ) (e : numberOf m
   reasons-are =
       rw (answers-of reception h vs dated (c .sized) one-each)
       (sym (map-map number (field 128 129) (answers vs (linesOf h)))
-      ∙ ap (map number) (reasons-answers vs (each-line h) (omega (arith, one-each, length-lines h)))
+      ∙ ap (map number) (reasons-answers vs (each-lined h) (omega (arith, one-each, length-lines h)))
       ∙ map-map number (decimal 2) (pick bad vs vs)
       ∙ reasons-read)
 

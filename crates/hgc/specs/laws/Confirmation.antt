@@ -18,10 +18,10 @@ use Rattle.numbers.specs.Number.{decimal}
 use Rattle.numbers.specs.laws.Number.{length-decimal}
 use Rattle.columns.specs.Columns.{text}
 use Rattle.hgv.specs.Layout.{linesIn, lengthHolds, linesOf}
-use Rattle.sizes.specs.Sizes.{lineLength, footerLength}
-use Rattle.hgv.specs.laws.Layout.{width-is, length-lines, each-line, length-least}
+use Rattle.sizes.specs.Sizes.{lineLength, footerLength, hgcHeaderLength}
+use Rattle.hgv.specs.laws.Layout.{width-is, length-lines, each-lined, length-least}
 use Rattle.header.specs.Header.{sender, listSequence}
-use Rattle.hgc.specs.Confirmation.{headLength, answerLength, confirmationLength, zeros, outcome, names, counts, head, answer, answers, foot, confirmation}
+use Rattle.hgc.specs.Confirmation.{answerLength, confirmationLength, zeros, outcome, names, counts, head, answer, answers, foot, confirmation}
 
 -- what there is of a line: its answer, and nothing where it was not rejected
 unfoldable pub said : ℕ → List ℕ → List ℕ
@@ -60,7 +60,7 @@ pub length-counts : (taken rejected : ℕ) → length (counts taken rejected) �
 unfolding counts
 length-counts taken rejected = simp length-append (omega (arith, length-decimal 15 taken, length-decimal 15 rejected, length-zeros 25, length-outcome rejected))
 
-pub length-head : (reception h : List ℕ) (taken rejected : ℕ) → length reception ≡ 14 → 128 ≤ length h → length (head reception h taken rejected) ≡ headLength
+pub length-head : (reception h : List ℕ) (taken rejected : ℕ) → length reception ≡ 14 → 128 ≤ length h → length (head reception h taken rejected) ≡ hgcHeaderLength
 unfolding head
 length-head reception h taken rejected d l = length-append (names reception h) (counts taken rejected) ∙ rw (length-names reception h d l, length-counts taken rejected)
 
@@ -129,7 +129,7 @@ pub length-confirmation : (reception h vs : List ℕ) → length reception ≡ 1
     → length (confirmation reception h vs) ≡ confirmationLength (tally bad vs)
 unfolding confirmation
 length-confirmation reception h vs d e n =
-    let a : length (head reception h (tally good vs) (tally bad vs)) ≡ headLength = length-head reception h (tally good vs) (tally bad vs) d (omega (arith, length-least h e)) in
+    let a : length (head reception h (tally good vs) (tally bad vs)) ≡ hgcHeaderLength = length-head reception h (tally good vs) (tally bad vs) d (omega (arith, length-least h e)) in
     let c : length (answers vs (linesOf h)) ≡ tally bad vs = count-answers vs (linesOf h) (omega (arith, length-lines h)) in
-    let b : length (flat (answers vs (linesOf h))) ≡ tally bad vs * answerLength = length-answers vs (rw (width-is h) at (each-line h)) ∙ ap (λ (k : ℕ). k * answerLength) c in
+    let b : length (flat (answers vs (linesOf h))) ≡ tally bad vs * answerLength = length-answers vs (each-lined h) ∙ ap (λ (k : ℕ). k * answerLength) c in
     simp length-append (omega (arith, length-foot))

@@ -56,6 +56,9 @@ module _ (h : List ℕ) where
   unfolding linesOf
   each-line = each-chop (widthOf h) (linesIn h) (body h) lines-room
 
+  pub each-lined : Each (λ l. length l ≡ lineLength) (linesOf h)
+  each-lined = rw width-is at each-line
+
   module _ (e : lengthHolds h ≡ true) where
     pub length-least : headerLength + footerLength ≤ length h
     unfolding lengthHolds

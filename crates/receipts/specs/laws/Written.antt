@@ -28,11 +28,11 @@ use Rattle.numbers.specs.laws.Number.{decimal-digits}
 use Rattle.lines.specs.Rules.{recordHolds}
 use Rattle.register.specs.Search.{ofActor}
 use Rattle.hgv.specs.Layout.{linesIn, lengthHolds, linesOf, footer}
-use Rattle.sizes.specs.Sizes.{lineLength, footerLength}
+use Rattle.sizes.specs.Sizes.{lineLength, footerLength, hgcHeaderLength}
 use Rattle.frames.specs.Frames.{footerHolds}
-use Rattle.hgv.specs.laws.Layout.{length-lines, each-line, length-least}
+use Rattle.hgv.specs.laws.Layout.{length-lines, each-lined, length-least}
 use Rattle.header.specs.Header.{sender, listSequence}
-use Rattle.hgc.specs.Confirmation.{headLength, answerLength, confirmationLength, zeros, outcome, head, answer, answers, foot, confirmation}
+use Rattle.hgc.specs.Confirmation.{answerLength, confirmationLength, zeros, outcome, head, answer, answers, foot, confirmation}
 use Rattle.hgc.specs.laws.Confirmation.{length-head, length-foot, each-answer, count-answers, length-answers, length-confirmation}
 use Rattle.hgc.specs.laws.Fields.{
   head-type,
@@ -111,14 +111,14 @@ module _ (reception h vs : List ℕ) (dated : length reception ≡ 14) (sized : 
   size : length g ≡ confirmationLength (tally bad vs)
   size = length-confirmation reception h vs dated sized counted
 
-  size-top : length top ≡ headLength
+  size-top : length top ≡ hgcHeaderLength
   size-top = length-head reception h (tally good vs) (tally bad vs) dated long
 
   rows-counted : length rows ≡ tally bad vs
   rows-counted = count-answers vs (linesOf h) (omega (arith, length-lines h))
 
   size-rows : length (flat rows) ≡ tally bad vs * answerLength
-  size-rows = length-answers vs (each-line h) ∙ ap (λ (k : ℕ). k * answerLength) rows-counted
+  size-rows = length-answers vs (each-lined h) ∙ ap (λ (k : ℕ). k * answerLength) rows-counted
 
   -- ---- its parts
 
@@ -130,7 +130,7 @@ module _ (reception h vs : List ℕ) (dated : length reception ≡ 14) (sized : 
   -- behind the header its lines, and then the footer
   behind-top : behindHead g ≡ flat rows ++ foot
   unfolding behindHead confirmation
-  behind-top = rw (append-assoc top (flat rows) foot) (drop-at top (flat rows ++ foot) headLength size-top)
+  behind-top = rw (append-assoc top (flat rows) foot) (drop-at top (flat rows ++ foot) hgcHeaderLength size-top)
 
   -- and they are the answers
   pub answers-of : answersOf g ≡ rows
@@ -138,7 +138,7 @@ module _ (reception h vs : List ℕ) (dated : length reception ≡ 14) (sized : 
   answers-of =
       rw (answers-in, behind-top)
       (sym (chop-take answerLength (tally bad vs) (flat rows ++ foot) (simp length-append (omega (arith, size-rows))))
-      ∙ rw (take-at (flat rows) foot (tally bad vs * answerLength) size-rows, ← rows-counted) (chop-flat answerLength (each-answer vs (each-line h))))
+      ∙ rw (take-at (flat rows) foot (tally bad vs * answerLength) size-rows, ← rows-counted) (chop-flat answerLength (each-answer vs (each-lined h))))
 
   -- its last 64 bytes are the footer
   pub foot-of : footer g ≡ foot
@@ -147,7 +147,7 @@ module _ (reception h vs : List ℕ) (dated : length reception ≡ 14) (sized : 
       drop-at (top ++ flat rows) foot (length g - footerLength) (simp length-append (omega (arith, size-top, length-foot)))
 
   -- a field of its header
-  pub field-of : (a b : ℕ) → 1 ≤ a → a ≤ b → b ≤ headLength → field a b g ≡ field a b top
+  pub field-of : (a b : ℕ) → 1 ≤ a → a ≤ b → b ≤ hgcHeaderLength → field a b g ≡ field a b top
   unfolding confirmation
   field-of a b o k l =
       field-before a b (top ++ flat rows) foot o k (simp length-append (omega (arith, size-top)))
@@ -185,7 +185,7 @@ module _ (reception h vs : List ℕ) (dated : length reception ≡ 14) (sized : 
 
   -- each line has its two ends
   pub answer-forms : each answerForm (answersOf g) ≡ true
-  answer-forms = rw answers-of (passes-each answerForm (each-answered answer-form (each-from vs 0 (λ i l b. refl)) (each-line h)))
+  answer-forms = rw answers-of (passes-each answerForm (each-answered answer-form (each-from vs 0 (λ i l b. refl)) (each-lined h)))
 
   -- so the form is right
   pub form-holds : formHolds g ≡ true
@@ -222,4 +222,4 @@ module _ (reception h vs : List ℕ) (dated : length reception ≡ 14) (sized : 
   -- the texts of the rejected lines, in file order
   pub copies-of : copiesOf g ≡ pick bad vs (textsOf h)
   unfolding copiesOf textsOf
-  copies-of = rw answers-of (texts-answers vs (each-line h))
+  copies-of = rw answers-of (texts-answers vs (each-lined h))
