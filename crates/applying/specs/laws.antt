@@ -1,4 +1,5 @@
 pub mod Prepared
+pub mod Sought
 pub mod Others
 pub mod Follows
 pub mod Outcomes

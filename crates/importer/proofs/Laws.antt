@@ -1,22 +1,19 @@
 -- What the functions of this crate cite. Assumes nothing.
 use mathlib.Core.Path.{_≡_, refl, sym, ap, _∙_}
-use mathlib.Core.Bool.{Bool, true, false, cond, true≢false}
+use mathlib.Core.Bool.{Bool, true, false}
 use mathlib.Core.List.{List, _++_}
-use Prim.Native.Nat.{ℕ, _+_, _-_, _*_, _≤_, _<_}
+use Prim.Native.Nat.{ℕ, _+_, _-_, _*_, _≤_}
 use native.Mathlib.Omega.{arith}
 use lib.Dec.{ltb}
-use lib.ListN.{length, drop, take, replicate, getD, getD-replicate}
-use lib.Seq.{getD-take}
+use lib.ListN.{length, drop}
 use Rattle.theory.specs.First.{choose, first}
 use Rattle.theory.specs.Each.{Each}
-use Rattle.theory.specs.laws.Table.{length-cut}
 use Rattle.theory.specs.Pick.{good, bad}
 use Rattle.theory.specs.Tally.{tally}
 use Rattle.theory.specs.laws.Tally.{tallies}
 use Rattle.header.specs.Header.{sender}
 use Rattle.times.specs.laws.Moment.{real-length}
 use Rattle.sizes.specs.Sizes.{slotsMost, linesMost}
-use Rattle.sizes.specs.Modes.{isFull}
 use Rattle.times.specs.Time.{realTime}
 use Rattle.lines.specs.Rules.{recordHolds}
 use Rattle.lines.specs.End.{recordOf}
@@ -29,16 +26,16 @@ use Rattle.verdicts.specs.Verdict.{taken}
 use Rattle.hgc.specs.Confirmation.{confirmation, confirmationLength}
 use Rattle.holdings.specs.Holdings.{holdings}
 use Rattle.holdings.specs.Room.{usedAfter}
-use Rattle.holdings.specs.Places.{placesIn, placesAfter}
-use Rattle.holdings.specs.laws.Places.{length-places}
+use Rattle.holdings.specs.Places.{placesAfter}
 use Rattle.applying.specs.Fit.{Fit, Sought}
+use Rattle.applying.specs.laws.Sought.{NoPlaces, sought}
 use Rattle.hgv.specs.laws.Layout.{lines-most}
 use Rattle.stops.specs.Stops.{formStop}
 use Rattle.stops.specs.laws.Clear.{Clear, clear}
 use Rattle.importer.specs.declared.Imported.{Imported}
 use Rattle.importer.specs.Import.{judged, following, confirmed, roomStops, success, written, told}
 use Rattle.importer.specs.laws.Numbers.{Room, room-clear}
-use Rattle.importer.specs.laws.Accepted.{NoPlaces, Accepted, verdict-each, lines-there, verdicts-most, lines-are, lines-hold, lines-made, lines-apart, lines-free, following-used, confirmed-length}
+use Rattle.importer.specs.laws.Accepted.{Accepted, verdict-each, lines-there, verdicts-most, lines-are, lines-hold, lines-made, lines-apart, lines-free, following-used, confirmed-length}
 
 -- vs are the verdicts, and r of them reject their line
 module _ (mode : ℕ) (reception register rows h : List ℕ) (vs : List ℕ) (r : ℕ)
@@ -159,29 +156,12 @@ module _ (mode : ℕ) (reception register rows h vs : List ℕ) (c : Clear mode 
 
   -- found₀ is the block before, and `found` what was found
   module _ (found₀ found : List ℕ) (z : NoPlaces found₀) (m : length found₀ ≡ linesIn h) (g : found ≡ placesAfter mode (records register) (widthOf h) (body h) vs found₀) where
-    sought : Sought mode (records register) (widthOf h) (body h) vs found
-    unfolding placesAfter
-    sought = go (isFull mode) refl g
-      where
-        go : (b : Bool) → isFull mode ≡ b → found ≡ cond b found₀ (placesIn (records register) (widthOf h) (body h) vs) → Sought mode (records register) (widthOf h) (body h) vs found
-        go true f k = record { many = ap length k ∙ as-many (length found₀) m; places = λ n. absurd (true≢false (sym f ∙ n)); none = λ _ i l. rw k (z .none i (omega (arith, as-many (length found₀) m))) }
-        go false f k = record { many = length-places (records register) (widthOf h) (body h) vs found k; places = λ _. k; none = λ n. absurd (true≢false (sym n ∙ f)) }
-
     pub accepts : (hgc : List ℕ) (t : ℕ) → t ≡ tally good vs → (s : ℕ) → s ≡ first (roomStops mode reception register rows h hgc) → s ≡ 0
         → Accepted mode reception register rows h hgc vs t (length vs - t) found
     accepts hgc t e s f y =
         let room : Room mode reception register rows h hgc = room-clear mode reception register rows h hgc (sym f ∙ y) in
-        record { clear = c; verdicts = v; taken-are = e; rejected-are = rest-rejected vs t e; slots = room .slots; buffer = room .buffer; sought = sought }
+        record { clear = c; verdicts = v; taken-are = e; rejected-are = rest-rejected vs t e; slots = room .slots; buffer = room .buffer; sought = sought mode (records register) (widthOf h) (body h) vs found₀ found z (as-many (length found₀) m) g }
 
 -- n lines have room in a block for the most that there may be
 pub lines-in-most : (mode : ℕ) (reception register rows h : List ℕ) (s : ℕ) → s ≡ formStop mode reception register rows h → s ≡ 0 → (n : ℕ) → n ≡ linesIn h → n ≤ linesMost
 lines-in-most mode reception register rows h s e z n f = rw f (lines-most h (clear mode reception register rows h (sym e ∙ z) .sized))
-
--- a block that has a number which is no place throughout
-pub no-places : (n : ℕ) → n ≤ linesMost → NoPlaces (take n (replicate linesMost slotsMost))
-no-places n l =
-    record {
-      none = λ j h.
-          let m : j < n = omega (arith, length-cut n linesMost slotsMost l) in
-          getD-take n (replicate linesMost slotsMost) j 0 m ∙ getD-replicate linesMost j slotsMost 0 (omega arith);
-    }

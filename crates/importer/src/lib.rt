@@ -9,7 +9,8 @@ ghost use Rattle.hgv.specs.Layout.{widthOf, linesIn, body};
 ghost use Rattle.register.specs.Register.{records};
 ghost use Rattle.holdings.specs.Places.{placesAfter};
 ghost use Rattle.importer.specs.Import.{judged, roomStops, refusal, success, written, told};
-ghost use Rattle.importer.specs.laws.Accepted.{NoPlaces, Accepted};
+ghost use Rattle.applying.specs.laws.Sought.{NoPlaces};
+ghost use Rattle.importer.specs.laws.Accepted.{Accepted};
 ghost use Rattle.importer.specs.Promises.{Import};
 
 // 0 and the three numbers, or the number of a stop and zero counts.

@@ -9,18 +9,25 @@ use lib.ListN.{length, drop}
 use borrow.Author.Tests.{not-true, not-false}
 use Rattle.theory.specs.First.{first}
 use Rattle.theory.specs.Walk.{each}
-use Rattle.theory.specs.Parts.{chop}
-use Rattle.theory.specs.Pick.{good, bad, pick}
+use Rattle.theory.specs.Each.{Each}
+use Rattle.theory.specs.Pick.{bad}
 use Rattle.theory.specs.Tally.{tally}
 use Rattle.header.specs.Header.{sender}
-use Rattle.hgv.specs.Layout.{linesIn, body, linesOf}
-use Rattle.sizes.specs.Sizes.{lineLength, linesMost}
+use Rattle.sizes.specs.Sizes.{slotsMost, linesMost}
+use Rattle.times.specs.Time.{realTime}
+use Rattle.lines.specs.Rules.{recordHolds}
+use Rattle.lines.specs.End.{recordOf}
+use Rattle.taken.specs.Taken.{takenIn}
+use Rattle.hgv.specs.Layout.{widthOf, linesIn, body, linesOf}
 use Rattle.hgv.specs.laws.Layout.{lines-room, lines-most}
-use Rattle.register.specs.Register.{slotsIn, records, inOrder}
+use Rattle.register.specs.Register.{slotsIn, records, usedIn, inOrder}
+use Rattle.register.specs.laws.Register.{ordered, used-most}
 use Rattle.holdings.specs.Holdings.{holdings}
 use Rattle.holdings.specs.Room.{usedAfter}
 use Rattle.upkeep.specs.Holds.{Holds}
-use Rattle.applying.specs.Fit.{Fit}
+use Rattle.holdings.specs.Places.{placesAfter}
+use Rattle.applying.specs.Fit.{Fit, Sought}
+use Rattle.applying.specs.laws.Sought.{NoPlaces, sought}
 use Rattle.pairing.specs.Pairing.{told}
 use Rattle.pairing.specs.Backwards.{paired}
 use Rattle.receipts.specs.Receipt.{answersIn, answersOf, receptionOf, reasonHolds, textsOf, copiesOf, marksOf, takenBy, receiptHolds}
@@ -46,7 +53,7 @@ use Rattle.provider.specs.laws.Numbers.{
   update-counted,
   copy-updated,
 }
-use Rattle.provider.specs.laws.Held.{length-marks-of, marks-are, reasons-held, left-count, following-used, taken-fit}
+use Rattle.provider.specs.laws.Held.{length-marks-of, marks-are, reasons-held, left-count, following-used, received-held, taken-kept, taken-fit}
 
 -- n lines have room in a block for the most that there may be
 pub file-most : (h : List ℕ) (s : ℕ) → s ≡ first (fileStops h) → s ≡ 0 → (n : ℕ) → n ≡ linesIn h → n ≤ linesMost
@@ -102,17 +109,24 @@ module _ (mode : ℕ) (copy h g : List ℕ) (z : first (copyStops mode copy h) �
       let n = update-52 mode copy h g z (sym er ∙ not-true r k) in
       (e ∙ update-refused mode copy h g 52 n (λ i. omega arith), copy-stays mode copy h g 52 n (λ i. omega arith))
 
-  -- from and ls are sender and body
-  module _ (k : not r ≡ false) (ms : List ℕ) (em : ms ≡ paired (textsOf h) (copiesOf g)) (from ls : List ℕ) (ef : from ≡ sender h) (el : ls ≡ body h) where
-    pub lines-fit : length ms * lineLength ≤ length ls
-    lines-fit = rw (marks-each h g r er k ms em, el) (lines-room h)
+  -- from, ls and w are sender, body and width
+  module _ (k : not r ≡ false) (ms : List ℕ) (em : ms ≡ paired (textsOf h) (copiesOf g))
+      (from ls : List ℕ) (w : ℕ) (ef : from ≡ sender h) (el : ls ≡ body h) (ew : w ≡ widthOf h) where
+    pub lines-fit : length ms * w ≤ length ls
+    lines-fit = rw (marks-each h g r er k ms em, el, ew) (lines-room h)
 
-    lines-are : pick good ms (chop lineLength (length ms) ls) ≡ takenBy h g
+    pub used-few : usedIn copy ≤ slotsMost
+    used-few = omega (arith, used-most copy, ordered copy (copy-sound mode copy h z .ordered) .most)
+
+    lines-are : takenIn w ms ls ≡ takenBy h g
     unfolding takenBy linesOf
-    lines-are = rw (marks-each h g r er k ms em, el, marks-fit h g r er k ms em)
+    lines-are = rw (marks-each h g r er k ms em, el, ew, marks-fit h g r er k ms em)
+
+    pub as-many : (n : ℕ) → n ≡ linesIn h → n ≡ length ms
+    as-many n e = e ∙ sym (marks-each h g r er k ms em)
 
     -- u slots would be used
-    module _ (u : ℕ) (eu : u ≡ usedAfter mode from (records copy) (pick good ms (chop lineLength (length ms) ls))) where
+    module _ (u : ℕ) (eu : u ≡ usedAfter mode from (records copy) (takenIn w ms ls)) where
       used-is : u ≡ length (following mode copy h g)
       used-is = eu ∙ rw (lines-are, ef) (following-used h g (holds h g r er k) mode copy)
 
@@ -126,13 +140,35 @@ module _ (mode : ℕ) (copy h g : List ℕ) (z : first (copyStops mode copy h) �
         room : length (following mode copy h g) ≤ slotsIn copy
         room = omega (arith, used-is)
 
-        pub apply-fits : (length ms * lineLength ≤ length ls) × ((inOrder copy ≡ true) × Fit mode from reception (slotsIn copy) (records copy) (pick good ms (chop lineLength (length ms) ls)))
-        apply-fits =
+        -- found₀ is the block before, and `found` what was found
+        pub apply-fits : (found₀ found : List ℕ) → NoPlaces found₀ → length found₀ ≡ linesIn h → found ≡ placesAfter mode (records copy) w ls ms found₀
+            → (length ms * w ≤ length ls)
+            × ((inOrder copy ≡ true)
+            × ((realTime reception ≡ true)
+            × (Each (λ l. recordHolds l ≡ true) (takenIn w ms ls)
+            × (Fit mode from (recordOf reception) (slotsIn copy) (records copy) (takenIn w ms ls) × Sought mode (records copy) w ls ms found))))
+        apply-fits found₀ found y m f =
             let s = copy-sound mode copy h z in
-            (lines-fit, (s .ordered, rw (lines-are, ef, ec) (taken-fit h g (holds h g r er k) mode copy (s .own) room)))
+            let t = holds h g r er k in
+            (
+              lines-fit,
+              (
+                s .ordered,
+                (
+                  rw ec (received-held h g t),
+                  (
+                    rw lines-are (taken-kept h g t),
+                    (
+                      rw (lines-are, ef, ec) (taken-fit h g t mode copy (s .own) room),
+                      sought mode (records copy) w ls ms found₀ found y (as-many (length found₀) m) f,
+                    ),
+                  ),
+                ),
+              ),
+            )
 
         pub update-whole : (a : Counted) → a ≡ counted h g
-            → (b : List ℕ) → Holds (slotsIn copy) (holdings mode from reception (records copy) (pick good ms (chop lineLength (length ms) ls))) b
+            → (b : List ℕ) → Holds (slotsIn copy) (holdings mode from (recordOf reception) (records copy) (takenIn w ms ls)) b
             → (a ≡ updateAnswer mode copy h g) × (b ≡ copyAfter mode copy h g)
         unfolding updated following
         update-whole a e b f =

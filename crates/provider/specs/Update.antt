@@ -14,7 +14,9 @@ use Rattle.hgv.specs.Layout.{lengthHolds}
 use Rattle.frames.specs.Frames.{footerHolds, framesHold}
 use Rattle.header.specs.Header.{sender, headerHolds}
 use Rattle.claims.specs.Claims.{versionHolds, receiverHolds, countHolds}
-use Rattle.register.specs.Register.{slotLength, slotsIn, records, inOrder}
+use Rattle.sizes.specs.Sizes.{slotLength}
+use Rattle.lines.specs.End.{recordOf}
+use Rattle.register.specs.Register.{slotsIn, records, inOrder}
 use Rattle.register.specs.Search.{ofActor}
 use Rattle.holdings.specs.Holdings.{holdings}
 use Rattle.stops.specs.Stops.{modeHolds, notFull}
@@ -44,7 +46,7 @@ copyStops mode copy h =
 
 -- the records that follow: the taken lines applied as the import applies them, with the HGC's reception
 unfoldable pub following : ℕ → List ℕ → List ℕ → List ℕ → List (List ℕ)
-following mode copy h g = holdings mode (sender h) (receptionOf g) (records copy) (takenBy h g)
+following mode copy h g = holdings mode (sender h) (recordOf (receptionOf g)) (records copy) (takenBy h g)
 
 -- 52, and 33: more used slots would follow than there are
 unfoldable pub roomStops : ℕ → List ℕ → List ℕ → List ℕ → List Rule

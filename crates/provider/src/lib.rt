@@ -18,11 +18,8 @@ ghost use Rattle.receipts.specs.Receipt.{answersIn, answersOf, reasonHolds, tex
 ghost use Rattle.provider.specs.Answer.{refusal, counted};
 ghost use Rattle.provider.specs.ReadBack.{reasonsOf, fileStops};
 ghost use Rattle.provider.specs.Update.{ownHolds, copyStops};
+ghost use Rattle.applying.specs.laws.Sought.{NoPlaces};
 ghost use Rattle.provider.specs.Promises.{ReadBack, Update};
-
-const SLOT: usize = 128;
-
-const LINES: usize = 8192;
 
 // 0 and the two counts, or the number of a stop and zero counts.
 pub struct Counted {
@@ -142,7 +139,7 @@ pub fn read_back(hgv: &[u8], hgc: &[u8], verdicts: &mut [u8]) -> Counted
     if stop != 0 {
         return refused(stop);
     }
-    let mut marks = [0u8; LINES];
+    let mut marks = [0u8; sizes::LINES_MOST];
     let n = hgv::lines_in(hgv);
     read_lines(hgv, hgc, verdicts, &mut marks[..n])
 }
@@ -152,7 +149,7 @@ fn is_own(copy: &[u8], hgv: &[u8]) -> bool
     ensures { λ r. ⌜ r ≡ ownHolds (now (copy .entry)) (now (hgv .entry)) ⌝ }
 {
     let held = register::used_part(copy);
-    register::count_of(held, header::sender(hgv)) == held.len() / SLOT
+    register::count_of(held, header::sender(hgv)) == held.len() / sizes::SLOT
 }
 
 // The stops that look at the mode, the copy and the HGV.
@@ -172,9 +169,19 @@ fn copy_stop(mode: u64, copy: &[u8], hgv: &[u8]) -> u64
     rules::first(!stops::is_mode(mode), 21, s23)
 }
 
-// The update by an HGV whose form is right; `marks` has a byte for each of its lines.
-fn update_lines(mode: u64, copy: &mut [u8], hgv: &[u8], hgc: &[u8], marks: &mut [u8]) -> Counted
-    requires { ⌜ (first (copyStops mode (now copy) (now hgv)) ≡ 0) × (length (now marks) ≡ linesIn (now hgv)) ⌝ }
+// The update by an HGV whose form is right; `marks` has a byte for each of its lines, and `found` a place that is none.
+fn update_lines(
+    mode: u64,
+    copy: &mut [u8],
+    hgv: &[u8],
+    hgc: &[u8],
+    marks: &mut [u8],
+    found: &mut [u16],
+) -> Counted
+    requires clear { ⌜ first (copyStops mode (now copy) (now hgv)) ≡ 0 ⌝ }
+    requires each { ⌜ length (now marks) ≡ linesIn (now hgv) ⌝ }
+    requires many { ⌜ length (now found) ≡ linesIn (now hgv) ⌝ }
+    requires none { ⌜ NoPlaces (now found) ⌝ }
     ensures { λ r. ⌜ Update mode (now (copy .entry)) (now (hgv .entry)) (now (hgc .entry)) r (now (copy .exit)) ⌝ }
 {
     if !is_receipt(hgv, hgc, marks) {
@@ -182,12 +189,13 @@ fn update_lines(mode: u64, copy: &mut [u8], hgv: &[u8], hgc: &[u8], marks: &mut 
     }
     let sender = header::sender(hgv);
     let lines = hgv::body(hgv);
-    let used = holdings::used_after(mode, copy, sender, lines, marks);
-    if copy.len() / SLOT < used {
+    let width = hgv::width(hgv);
+    let used = holdings::used_after(mode, copy, sender, lines, width, marks, found);
+    if copy.len() / sizes::SLOT < used {
         return refused(33);
     }
     let reception = receipts::reception(hgc);
-    applying::apply(mode, copy, sender, reception, lines, marks);
+    applying::apply(mode, copy, sender, reception, lines, width, marks, found);
     count(hgv, hgc, marks)
 }
 
@@ -199,7 +207,8 @@ pub fn update(mode: u64, copy: &mut [u8], hgv: &[u8], hgc: &[u8]) -> Counted
     if stop != 0 {
         return refused(stop);
     }
-    let mut marks = [0u8; LINES];
+    let mut marks = [0u8; sizes::LINES_MOST];
+    let mut found = [sizes::NO_PLACE; sizes::LINES_MOST];
     let n = hgv::lines_in(hgv);
-    update_lines(mode, copy, hgv, hgc, &mut marks[..n])
+    update_lines(mode, copy, hgv, hgc, &mut marks[..n], &mut found[..n])
 }

@@ -5,7 +5,8 @@ use native.Mathlib.Omega.{arith}
 use Rattle.stops.specs.laws.Clear.{clear}
 use Rattle.importer.specs.laws.Numbers.{number-form, stop-answer, stop-register, stop-hgc}
 use lib.Seq.{length-take-le}
-use Rattle.importer.proofs.Laws.{lines-in-most, no-places}
+use Rattle.applying.specs.laws.Sought.{no-places}
+use Rattle.importer.proofs.Laws.{lines-in-most}
 use borrow.Author.Needs.{needs}
 use Rattle.importer.proofs.import.Statement.{statement}
 use Rattle.importer.proofs.import.Tie as tie

@@ -3,9 +3,9 @@
 use mathlib.Core.Path.{_≡_, ap, _∙_}
 use mathlib.Core.Bool.{true, false}
 use mathlib.Core.List.{List, map}
-use Prim.Native.Nat.{ℕ, _*_, _≤_, _<_}
+use Prim.Native.Nat.{ℕ, _*_, _≤_}
 use native.Mathlib.Omega.{arith}
-use lib.ListN.{length, getD}
+use lib.ListN.{length}
 use Rattle.theory.specs.Each.{Each}
 use Rattle.theory.specs.laws.Each.{each-map}
 use Rattle.theory.specs.Pick.{good, bad}
@@ -17,7 +17,7 @@ use Rattle.lines.specs.Rules.{recordHolds, L2}
 use Rattle.lines.specs.Faultless.{Faultless}
 use Rattle.lines.specs.laws.Faultless.{faultless-record}
 use Rattle.lines.specs.End.{recordOf}
-use Rattle.sizes.specs.Sizes.{slotsMost, linesMost}
+use Rattle.sizes.specs.Sizes.{linesMost}
 use Rattle.hgv.specs.Layout.{widthOf, linesIn, body, linesOf}
 use Rattle.hgv.specs.laws.Layout.{lines-room, lines-most}
 use Rattle.header.specs.Header.{sender}
@@ -95,10 +95,6 @@ module _ (mode : ℕ) (reception register rows h : List ℕ) (c : Clear mode rec
     pub confirmed-length : (r : ℕ) → r ≡ tally bad vs → length (confirmed reception register rows h) ≡ confirmationLength r
     unfolding confirmed
     confirmed-length r f = rw (← e, f) (length-confirmation reception h vs (real-length reception (c .received)) (c .sized) verdict-each)
-
--- no number of the block is a place
-pub record NoPlaces (found : List ℕ) : Type 0 where
-  pub none : (i : ℕ) → i < length found → getD found i 0 ≡ slotsMost
 
 -- the file's form is right, its lines are judged, and there is room for what follows
 pub record Accepted (mode : ℕ) (reception register rows h hgc vs : List ℕ) (t r : ℕ) (found : List ℕ) : Type 0 where

@@ -18,8 +18,10 @@ use Rattle.theory.specs.laws.Tally.{tally-pick}
 use Rattle.times.specs.Time.{realTime}
 use Rattle.times.specs.laws.Moment.{real-length}
 use Rattle.columns.specs.Columns.{panOf}
-use Rattle.records.specs.laws.Written.{record-front}
-use Rattle.records.specs.laws.Holds.{record-long}
+use Rattle.lines.specs.Rules.{recordHolds}
+use Rattle.lines.specs.End.{recordOf}
+use Rattle.upkeep.specs.Makes.{Makes}
+use Rattle.upkeep.specs.laws.Makes.{record-makes}
 use Rattle.hgv.specs.Layout.{linesIn, linesOf}
 use Rattle.hgv.specs.laws.Layout.{length-lines}
 use Rattle.header.specs.Header.{sender}
@@ -87,16 +89,22 @@ module _ (h g : List ℕ) where
     unfolding ownHolds
     taken-free copy o = each-map (λ l e. own-free (sender h) (panOf l) (each-passes (ofActor (sender h)) (records copy) o)) (matched .records)
 
+    -- each keeps the rules of a record
+    pub taken-kept : Each (λ l. recordHolds l ≡ true) (takenBy h g)
+    taken-kept = matched .records
+
+    pub taken-made : Each (Makes (recordOf (receptionOf g))) (takenBy h g)
+    taken-made = each-map (λ l k. record-makes (receptionOf g) received-held l k) taken-kept
+
     -- the number of records that follow, as it is reckoned
     pub following-used : (mode : ℕ) (copy : List ℕ) → usedAfter mode (sender h) (records copy) (takenBy h g) ≡ length (following mode copy h g)
     unfolding following
     following-used mode copy =
-        used-after (receptionOf g) mode (sender h) (records copy) (takenBy h g)
-        (each-map (λ l k. record-front (receptionOf g) l (record-long l k) (real-length (receptionOf g) received-held) 14 32 (omega arith) (omega arith) (omega arith)) (matched .records)) (matched .apart)
+        used-after (recordOf (receptionOf g)) mode (sender h) (records copy) (takenBy h g) (each-map (λ l m. m .pan) taken-made) (matched .apart)
 
     -- the taken lines can be applied to the sender's copy
     pub taken-fit : (mode : ℕ) (copy : List ℕ) → ownHolds copy h ≡ true → length (following mode copy h g) ≤ slotsIn copy
-        → Fit mode (sender h) (receptionOf g) (slotsIn copy) (records copy) (takenBy h g)
+        → Fit mode (sender h) (recordOf (receptionOf g)) (slotsIn copy) (records copy) (takenBy h g)
     unfolding following
     taken-fit mode copy o m =
-        record { received = received-held; lined = matched .records; apart = matched .apart; free = taken-free copy o; room = m }
+        record { made = taken-made; apart = matched .apart; free = taken-free copy o; room = m }
