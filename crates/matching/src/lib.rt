@@ -15,7 +15,7 @@ ghost use Rattle.numbers.specs.Number.{number};
 ghost use Rattle.columns.specs.Columns.{text, panOf};
 ghost use Rattle.hgv.specs.Layout.{lineLength, linesIn};
 ghost use Rattle.hgc.specs.Confirmation.{answerLength};
-ghost use Rattle.pairing.specs.Pairing.{firsts};
+ghost use Rattle.theory.specs.Firsts.{firsts};
 ghost use Rattle.pairing.specs.Backwards.{isLast, waiting, paired};
 ghost use Rattle.receipts.specs.Receipt.{takenOf, rejectedOf, textsOf, copiesOf, copiesHold, lineHolds};
 ghost use Rattle.matching.specs.laws.Texts.{textsIn};
