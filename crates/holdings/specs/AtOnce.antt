@@ -7,11 +7,11 @@ use Rattle.theory.specs.Table.{tableOf}
 use Rattle.columns.specs.Columns.{panOf}
 use Rattle.hgv.specs.Layout.{lineLength}
 use Rattle.register.specs.Register.{slotsMost}
-use Rattle.ordering.specs.Places.{placeFor}
+use Rattle.finding.specs.Places.{placeFor}
 
 -- of the first m lines with these verdicts, where the PAN of each that was taken stands among the records R
 unfoldable pub placesIn : List (List ℕ) → List ℕ → List ℕ → ℕ → List ℕ
-placesIn R lines vs m = tableOf (placeFor panOf R lineLength lines vs) m
+placesIn R lines vs m = tableOf (placeFor panOf R panOf lineLength lines vs) m
 
 -- of how many lines that is asked at once: a block has room for as many as a register has slots
 unfoldable pub atOnce : ℕ → ℕ → ℕ

@@ -22,6 +22,19 @@ const LINE: usize = 128;
 
 const SLOTS: usize = 8192;
 
+// Where the PAN stands, in a slot and in a line.
+const PANS: keys::Keys = keys::Keys {
+    width: SLOT,
+    from: columns::PAN_FROM,
+    to: columns::PAN_TO,
+};
+
+const LINE_PANS: keys::Keys = keys::Keys {
+    width: LINE,
+    from: columns::PAN_FROM,
+    to: columns::PAN_TO,
+};
+
 // Of how many lines the places are found at once.
 pub fn at_once(slots: usize, lines: usize) -> usize
     ensures { λ r. ⌜ AtOnce slots lines r ⌝ }
@@ -40,17 +53,7 @@ pub fn places(held: &[u8], lines: &[u8], verdicts: &[u8], found: &mut [u16])
     ensures { λ _. ⌜ Places (now (held .entry)) (now (lines .entry)) (now (verdicts .entry)) (now (found .entry)) (now (found .exit)) ⌝ }
 {
     let n = held.len() / SLOT;
-    ordering::places(
-        held,
-        SLOT,
-        columns::PAN_FROM,
-        columns::PAN_TO,
-        n,
-        lines,
-        LINE,
-        verdicts,
-        found,
-    );
+    finding::places(held, PANS, n, lines, LINE_PANS, verdicts, found);
 }
 
 fn wide(x: u16) -> usize

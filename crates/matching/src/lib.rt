@@ -21,6 +21,19 @@ ghost use Rattle.receipts.specs.Receipt.{takenOf, rejectedOf, textsOf, copiesOf
 ghost use Rattle.matching.specs.laws.Texts.{textsIn};
 ghost use Rattle.matching.specs.Promises.{LinesHold};
 
+// Where the text and the PAN of an HGV's line stand.
+const TEXTS: keys::Keys = keys::Keys {
+    width: hgv::LINE,
+    from: hgc::places::TEXT_FROM,
+    to: hgc::places::TEXT_TO,
+};
+
+const PANS: keys::Keys = keys::Keys {
+    width: hgv::LINE,
+    from: columns::PAN_FROM,
+    to: columns::PAN_TO,
+};
+
 // Have two lines, of either file, one text. Nearly all lines differ in the PAN, and few bytes behind it tell them apart.
 fn have_same_text(a: &[u8], b: &[u8]) -> bool
     ensures { λ r. ⌜ r ≡ eqs (text (now (a .entry))) (text (now (b .entry))) ⌝ }
@@ -78,13 +91,7 @@ fn are_firsts(lines: &[u8], marks: &[u8]) -> bool
     requires { ⌜ length (now marks) * lineLength ≤ length (now lines) ⌝ }
     ensures { λ r. ⌜ r ≡ firsts (textsIn lineLength (length (now (marks .entry))) (now (lines .entry))) (now (marks .entry)) ⌝ }
 {
-    ordering::are_firsts(
-        lines,
-        hgv::LINE,
-        hgc::places::TEXT_FROM,
-        hgc::places::TEXT_TO,
-        marks,
-    )
+    ordering::are_firsts(lines, TEXTS, marks)
 }
 
 // Have no two lines marked 0 one PAN.
@@ -92,7 +99,7 @@ fn are_apart(lines: &[u8], marks: &[u8]) -> bool
     requires { ⌜ length (now marks) * lineLength ≤ length (now lines) ⌝ }
     ensures { λ r. ⌜ r ≡ distinct (map panOf (pick good (now (marks .entry)) (chop lineLength (length (now (marks .entry))) (now (lines .entry))))) ⌝ }
 {
-    ordering::are_apart(lines, hgv::LINE, columns::PAN_FROM, columns::PAN_TO, marks)
+    ordering::are_apart(lines, PANS, marks)
 }
 
 // Has a line the sender for its actor, and keeps it L1, L5 to L10.

@@ -9,7 +9,8 @@ use Rattle.holdings.proofs.places.Tie as tie
 
 places-requires : tie.Need-places-requires
 places-requires c κs =
-    (div-mul-le-self _ 128, (omega arith, (omega arith, c .before .before .before .before .before .pre)))
+    let (lined, (judged, few)) = c .before .before .before .before .before .pre in
+    (div-mul-le-self _ 128, ((omega arith, omega arith), (lined, ((omega arith, omega arith), (judged, few)))))
 
 returns : tie.Need-returns
 unfolding placesIn slotsOf

@@ -14,7 +14,7 @@ use Rattle.columns.specs.Columns.{panOf}
 use Rattle.hgv.specs.Layout.{lineLength}
 use Rattle.register.specs.Register.{slotsMost}
 use Rattle.register.specs.Search.{holdsPan, placeOf}
-use Rattle.ordering.specs.Places.{placeFor}
+use Rattle.finding.specs.Places.{placeFor}
 use Rattle.holdings.specs.AtOnce.{placesIn, atOnce}
 
 -- `found` tells where the PAN of each taken line stands, as far as it goes
@@ -24,7 +24,7 @@ pub record Told (R : List (List ℕ)) (lines vs found : List ℕ) : Type 0 where
 pub places-tell : (R : List (List ℕ)) (lines vs : List ℕ) (m : ℕ) (found : List ℕ) → found ≡ placesIn R lines vs m → Told R lines vs found
 unfolding placesIn placeFor placeOf holdsPan
 places-tell R lines vs m found e =
-    let f : ℕ → ℕ = placeFor panOf R lineLength lines vs in
+    let f : ℕ → ℕ = placeFor panOf R panOf lineLength lines vs in
     record { told = λ i h g. rw e (entry f m i (omega (arith, ap length e, length-table f m)) ∙ rw g) }
 
 -- what such a number keeps to
