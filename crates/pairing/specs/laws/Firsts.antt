@@ -30,7 +30,7 @@ pub mem-last : (t : List ℕ) (before : List (List ℕ)) → mem t (before ++ t 
 unfolding mem
 mem-last t before = mem-append t before (t ∷ []) ∙ or-true (mem t before) _ (rw (eqs-refl t))
 
-pub mem-rest : (t : List ℕ) (before : List (List ℕ)) (x : List ℕ) → mem t (before ++ x ∷ []) ≡ false → (mem t before ≡ false) × (eqs t x ≡ false)
+mem-rest : (t : List ℕ) (before : List (List ℕ)) (x : List ℕ) → mem t (before ++ x ∷ []) ≡ false → (mem t before ≡ false) × (eqs t x ≡ false)
 unfolding mem
 mem-rest t before x h =
     let e : mem t before || (eqs t x || false) ≡ false = sym (mem-append t before (x ∷ [])) ∙ h in

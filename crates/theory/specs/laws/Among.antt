@@ -18,7 +18,7 @@ use Rattle.theory.specs.Pick.{good, pick}
 use Rattle.theory.specs.Parts.{chop, partAt}
 use Rattle.theory.specs.laws.Parts.{partsFrom, parts-start, parts-step, parts-end}
 
-pub some-onto : (q : List ℕ → Bool) (b : Bool) (x : List ℕ) (xs : List (List ℕ)) → some q (onto b x xs) ≡ (b && q x) || some q xs
+some-onto : (q : List ℕ → Bool) (b : Bool) (x : List ℕ) (xs : List (List ℕ)) → some q (onto b x xs) ≡ (b && q x) || some q xs
 unfolding some onto
 some-onto q true x xs = refl
 some-onto q false x xs = refl

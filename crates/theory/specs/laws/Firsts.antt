@@ -56,7 +56,7 @@ firsts-more before t ts v vs g h = and-both _ _ (go (good v) (mem t before) g) h
 
 module _ (ts : List (List ℕ)) (vs : List ℕ) (l : length vs ≡ length ts) (h : firsts ts vs ≡ true) where
   -- a text that stands in front has another verdict than 0
-  pub firsts-at : (k : ℕ) → k < length ts → mem (getD ts k []) (take k ts) ≡ true → good (getD vs k 0) ≡ false
+  firsts-at : (k : ℕ) → k < length ts → mem (getD ts k []) (take k ts) ≡ true → good (getD vs k 0) ≡ false
   unfolding firsts
   firsts-at k b m = go [] ts vs l h k b m
     where
