@@ -5,12 +5,12 @@ use Prim.Native.Nat.{ℕ}
 use lib.ListN.{length}
 use Rattle.theory.specs.Table.{tableOf}
 use Rattle.columns.specs.Columns.{panOf}
-use Rattle.ordering.specs.Places.{placeFor}
+use Rattle.finding.specs.Places.{placeFor}
 use Rattle.sizes.specs.Modes.{isFull}
 
 -- of each line that was taken, where its PAN stands among the records R; lines of this width with these verdicts
 unfoldable pub placesIn : List (List ℕ) → ℕ → List ℕ → List ℕ → List ℕ
-placesIn R width lines vs = tableOf (placeFor panOf R width lines vs) (length vs)
+placesIn R width lines vs = tableOf (placeFor panOf R panOf width lines vs) (length vs)
 
 -- mode 2 looks for none, since the sender's records go and no other actor holds one of the PANs
 unfoldable pub placesAfter : ℕ → List (List ℕ) → ℕ → List ℕ → List ℕ → List ℕ → List ℕ

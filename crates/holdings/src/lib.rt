@@ -13,6 +13,13 @@ ghost use Rattle.holdings.specs.Places.{placesIn};
 ghost use Rattle.holdings.specs.laws.Places.{CountsNew};
 ghost use Rattle.holdings.specs.Promises.{PlaceAt, UsedAfter};
 
+// Where the PAN stands in a slot.
+const PANS: keys::Keys = keys::Keys {
+    width: sizes::SLOT,
+    from: columns::PAN_FROM,
+    to: columns::PAN_TO,
+};
+
 fn wide(x: u16) -> usize
     ensures { λ r. ⌜ r ≡ x ⌝ }
 {
@@ -35,17 +42,12 @@ fn find_places(held: &[u8], lines: &[u8], width: usize, verdicts: &[u8], found: 
     ensures { λ _. ⌜ now (found .exit) ≡ placesIn (slotsOf (now (held .entry))) width (now (lines .entry)) (now (verdicts .entry)) ⌝ }
 {
     let n = held.len() / sizes::SLOT;
-    ordering::places(
-        held,
-        sizes::SLOT,
-        columns::PAN_FROM,
-        columns::PAN_TO,
-        n,
-        lines,
+    let line = keys::Keys {
         width,
-        verdicts,
-        found,
-    );
+        from: columns::PAN_FROM,
+        to: columns::PAN_TO,
+    };
+    finding::places(held, PANS, n, lines, line, verdicts, found);
 }
 
 // Counts a line that was taken, and whose PAN none of the slots has.

@@ -28,7 +28,7 @@ use Rattle.hgv.specs.laws.Layout.{lines-room, length-lines}
 use Rattle.hgc.specs.Confirmation.{answerLength}
 use Rattle.pairing.specs.Backwards.{isLast, lower, waiting, paired}
 use Rattle.pairing.specs.laws.Backwards.{pairsUp, length-paired}
-use Rattle.pairing.specs.Pairing.{firsts}
+use Rattle.theory.specs.Firsts.{firsts}
 use Rattle.pairing.specs.laws.Turns.{Pairs, pairs-turn, lower-hit, lower-miss, last-some}
 use Rattle.receipts.specs.Receipt.{answersIn, behindHead, takenOf, rejectedOf, textsOf, copiesOf, marksOf, takenBy, copiesHold, countsHold, lineHolds, takenHold, linesHold}
 use Rattle.receipts.specs.laws.Receipt.{answers-room, answers-are}

@@ -16,11 +16,24 @@ ghost use Rattle.columns.specs.Columns.{text, panOf};
 ghost use Rattle.hgv.specs.Layout.{linesIn};
 ghost use Rattle.sizes.specs.Sizes.{lineLength};
 ghost use Rattle.hgc.specs.Confirmation.{answerLength};
-ghost use Rattle.pairing.specs.Pairing.{firsts};
+ghost use Rattle.theory.specs.Firsts.{firsts};
 ghost use Rattle.pairing.specs.Backwards.{isLast, waiting, paired};
 ghost use Rattle.receipts.specs.Receipt.{takenOf, rejectedOf, textsOf, copiesOf, copiesHold, lineHolds};
 ghost use Rattle.matching.specs.laws.Texts.{textsIn};
 ghost use Rattle.matching.specs.Promises.{LinesHold};
+
+// Where the text and the PAN of an HGV's line stand.
+const TEXTS: keys::Keys = keys::Keys {
+    width: sizes::LINE,
+    from: hgc::places::TEXT_FROM,
+    to: hgc::places::TEXT_TO,
+};
+
+const PANS: keys::Keys = keys::Keys {
+    width: sizes::LINE,
+    from: columns::PAN_FROM,
+    to: columns::PAN_TO,
+};
 
 // Have two lines, of either file, one text. Nearly all lines differ in the PAN, and few bytes behind it tell them apart.
 fn have_same_text(a: &[u8], b: &[u8]) -> bool
@@ -79,13 +92,7 @@ fn are_firsts(lines: &[u8], marks: &[u8]) -> bool
     requires { ⌜ length (now marks) * lineLength ≤ length (now lines) ⌝ }
     ensures { λ r. ⌜ r ≡ firsts (textsIn lineLength (length (now (marks .entry))) (now (lines .entry))) (now (marks .entry)) ⌝ }
 {
-    ordering::are_firsts(
-        lines,
-        sizes::LINE,
-        hgc::places::TEXT_FROM,
-        hgc::places::TEXT_TO,
-        marks,
-    )
+    ordering::are_firsts(lines, TEXTS, marks)
 }
 
 // Have no two lines marked 0 one PAN.
@@ -93,7 +100,7 @@ fn are_apart(lines: &[u8], marks: &[u8]) -> bool
     requires { ⌜ length (now marks) * lineLength ≤ length (now lines) ⌝ }
     ensures { λ r. ⌜ r ≡ distinct (map panOf (pick good (now (marks .entry)) (chop lineLength (length (now (marks .entry))) (now (lines .entry))))) ⌝ }
 {
-    ordering::are_apart(lines, sizes::LINE, columns::PAN_FROM, columns::PAN_TO, marks)
+    ordering::are_apart(lines, PANS, marks)
 }
 
 // Has a line the sender for its actor, and keeps it L1, L5 to L10.

@@ -1,12 +1,12 @@
 -- Which lines of an HGV were taken, read off its HGC. Texts are the lines' positions 2-127; `all` are those of the HGV's
 -- lines and `copies` those of the HGC's, both in file order. Assumes nothing.
 use Prim.Native.Nat.{ℕ, zero, suc}
-use mathlib.Core.Bool.{Bool, true, not, _&&_}
+use mathlib.Core.Bool.{Bool, not, _&&_}
 use mathlib.Core.List.{List, [], _∷_, _++_}
 use lib.Dec.{ltb}
 use Rattle.theory.specs.Same.{mem}
 use Rattle.theory.specs.Count.{bump, count}
-use Rattle.theory.specs.Pick.{good, bad, pick}
+use Rattle.theory.specs.Pick.{bad, pick}
 
 -- the first copy of a text that stands more often in the HGV than in the HGC; `before` are the texts in front of it
 unfoldable pub isTaken : List (List ℕ) → List (List ℕ) → List (List ℕ) → List ℕ → Bool
@@ -31,13 +31,3 @@ told [] rs = []
 told (zero ∷ ms) rs = 0 ∷ told ms rs
 told (suc m ∷ ms) [] = 0 ∷ told ms []
 told (suc m ∷ ms) (r ∷ rs) = r ∷ told ms rs
-
--- no line that has the verdict 0 has a text that stands in front of it; `before` are the texts in front of all
-unfoldable pub firstsFrom : List (List ℕ) → List (List ℕ) → List ℕ → Bool
-firstsFrom before [] vs = true
-firstsFrom before (t ∷ ts) [] = true
-firstsFrom before (t ∷ ts) (v ∷ vs) = not (good v && mem t before) && firstsFrom (before ++ t ∷ []) ts vs
-
--- each line that has the verdict 0 is the first of its text
-unfoldable pub firsts : List (List ℕ) → List ℕ → Bool
-firsts ts vs = firstsFrom [] ts vs

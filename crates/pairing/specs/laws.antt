@@ -4,4 +4,3 @@ pub mod Faithful
 pub mod Backwards
 pub mod Turns
 pub mod Telling
-pub mod Apart

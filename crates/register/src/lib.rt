@@ -18,6 +18,12 @@ const SLOT: usize = 128;
 
 const SLOTS: usize = 8192;
 
+const PANS: keys::Keys = keys::Keys {
+    width: SLOT,
+    from: columns::PAN_FROM,
+    to: columns::PAN_TO,
+};
+
 fn is_marked(s: &[u8]) -> bool
     ensures { λ r. ⌜ r ≡ marked (now (s .entry)) ⌝ }
 {
@@ -166,7 +172,7 @@ fn all_different(b: &[u8], n: usize) -> bool
     ensures { λ r. ⌜ r ≡ distinct (map panOf (chop 128 n (now (b .entry)))) ⌝ }
 {
     let asked = [0u8; SLOTS];
-    ordering::are_apart(b, SLOT, columns::PAN_FROM, columns::PAN_TO, &asked[..n])
+    ordering::are_apart(b, PANS, &asked[..n])
 }
 
 // 0 to 8,192 whole slots, the used ones first and in form, all their PANs different, and zero bytes behind them.

@@ -11,6 +11,8 @@ pub mod Each
 pub mod Keep
 pub mod Pick
 pub mod Distinct
+pub mod Firsts
+pub mod Below
 pub mod Join
 pub mod Put
 pub mod Pad

@@ -12,6 +12,8 @@ pub mod Each
 pub mod Keep
 pub mod Pick
 pub mod Distinct
+pub mod Firsts
+pub mod Below
 pub mod Join
 pub mod Put
 pub mod Pad
@@ -21,3 +23,4 @@ pub mod Counting
 pub mod Tally
 pub mod Scan
 pub mod Among
+pub mod Apart

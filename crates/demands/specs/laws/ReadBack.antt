@@ -38,7 +38,7 @@ use Rattle.stops.specs.laws.Clear.{Clear}
 use Rattle.importer.specs.Import.{judged, confirmed, numberOf, success, told, answer, hgcAfter}
 use Rattle.importer.specs.laws.Accepted.{verdict-each, lines-hold, lines-his, lines-apart}
 use Rattle.importer.specs.laws.Numbers.{accepted-clear, done-answer, done-hgc}
-use Rattle.pairing.specs.Pairing.{firsts}
+use Rattle.theory.specs.Firsts.{firsts}
 use Rattle.pairing.specs.laws.Pairing.{mark, pick-marked, told-is}
 use Rattle.pairing.specs.laws.Firsts.{marks-is, left-is}
 use Rattle.pairing.specs.laws.Faithful.{Judges, lines-first}

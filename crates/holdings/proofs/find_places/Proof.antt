@@ -11,7 +11,7 @@ use Rattle.holdings.proofs.find_places.Tie as tie
 places-requires : tie.Need-places-requires
 places-requires c κs =
     let (lined, (judged, few)) = c .before .before .before .before .before .pre in
-    (div-mul-le-self _ slotLength, (omega arith, (omega arith, (lined, (omega (arith, judged), λ h. few)))))
+    (div-mul-le-self _ slotLength, ((omega arith, omega arith), (lined, ((omega arith, omega arith), (omega (arith, judged), λ h. few)))))
 
 returns : tie.Need-returns
 unfolding placesIn slotsOf

@@ -11,7 +11,7 @@ use Rattle.theory.specs.Pick.{good}
 use Rattle.theory.specs.laws.Table.{entry, length-table}
 use Rattle.columns.specs.Columns.{panOf}
 use Rattle.register.specs.Search.{holdsPan, placeOf}
-use Rattle.ordering.specs.Places.{placeFor}
+use Rattle.finding.specs.Places.{placeFor}
 use Rattle.taken.specs.Taken.{takenIn}
 use Rattle.holdings.specs.Places.{placesIn}
 use Rattle.holdings.specs.Room.{isNew}
@@ -22,7 +22,7 @@ pub record Told (R : List (List ℕ)) (width : ℕ) (lines vs found : List ℕ) 
 
 module _ (R : List (List ℕ)) (width : ℕ) (lines vs found : List ℕ) (e : found ≡ placesIn R width lines vs) where
   abbrev f : ℕ → ℕ
-  f = placeFor panOf R width lines vs
+  f = placeFor panOf R panOf width lines vs
 
   pub places-tell : Told R width lines vs found
   unfolding placesIn placeFor placeOf holdsPan

@@ -1,6 +1,6 @@
 -- The invariant: those marked 0 from the place i on decide. Assumes nothing.
 use Rattle.theory.specs.laws.Parts.{part-fits}
-use Rattle.pairing.specs.laws.Apart.{EachAmong, each-among-start, each-among-on, each-among-off, each-among-end}
+use Rattle.theory.specs.laws.Among.{EachAmong, each-among-start, each-among-on, each-among-off, each-among-end}
 use Rattle.receipts.specs.Receipt.{lineHolds}
 use mathlib.Core.Path.{sym}
 use Prim.Native.Nat.{_≤_, _-_}

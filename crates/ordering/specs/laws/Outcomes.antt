@@ -4,16 +4,15 @@ use mathlib.Core.Bool.{Bool}
 use mathlib.Core.List.{List}
 use Prim.Native.Nat.{ℕ}
 use Rattle.theory.specs.laws.Outcome.{one-outcome}
-use Rattle.ordering.specs.Promises.{AreApart, AreFirsts, Places}
+use Rattle.keys.specs.declared.Keys.{Keys}
+use Rattle.ordering.specs.Promises.{AreApart, AreFirsts, Covers}
 
-pub are-apart-one : (b : List ℕ) (width from to : ℕ) (marks : List ℕ) (r s : Bool)
-    → AreApart b width from to marks r → AreApart b width from to marks s → r ≡ s
-are-apart-one b width from to marks r s = one-outcome
+pub are-apart-one : (b : List ℕ) (keys : Keys) (marks : List ℕ) (r s : Bool) → AreApart b keys marks r → AreApart b keys marks s → r ≡ s
+are-apart-one b keys marks r s = one-outcome
 
-pub are-firsts-one : (b : List ℕ) (width from to : ℕ) (marks : List ℕ) (r s : Bool)
-    → AreFirsts b width from to marks r → AreFirsts b width from to marks s → r ≡ s
-are-firsts-one b width from to marks r s = one-outcome
+pub are-firsts-one : (b : List ℕ) (keys : Keys) (marks : List ℕ) (r s : Bool) → AreFirsts b keys marks r → AreFirsts b keys marks s → r ≡ s
+are-firsts-one b keys marks r s = one-outcome
 
-pub places-one : (b : List ℕ) (width from to n : ℕ) (lines : List ℕ) (line : ℕ) (marks found r s : List ℕ)
-    → Places b width from to n lines line marks found r → Places b width from to n lines line marks found s → r ≡ s
-places-one b width from to n lines line marks found r s = one-outcome
+pub covers-one : (marks : List ℕ) (all : Bool) (order ranks : List ℕ) (m : ℕ) (r s : Bool)
+    → Covers marks all order ranks m r → Covers marks all order ranks m s → r ≡ s
+covers-one marks all order ranks m r s = one-outcome

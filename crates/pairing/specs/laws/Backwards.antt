@@ -18,9 +18,11 @@ use Rattle.theory.specs.Each.{Each, none, more}
 use Rattle.theory.specs.laws.Each.{each-map, each-append, each-at}
 use Rattle.theory.specs.Keep.{onto}
 use Rattle.theory.specs.Pick.{good, bad, pick}
-use Rattle.pairing.specs.Pairing.{isTaken, marksFrom, marks, left, firstsFrom, firsts}
+use Rattle.theory.specs.Firsts.{firstsFrom, firsts}
+use Rattle.theory.specs.laws.Firsts.{firsts-zero, firsts-tail, firsts-more}
+use Rattle.pairing.specs.Pairing.{isTaken, marksFrom, marks, left}
 use Rattle.pairing.specs.laws.Pairing.{mark, length-marks}
-use Rattle.pairing.specs.laws.Firsts.{mem-front, mem-last, firsts-zero, firsts-tail, firsts-more, marks-is, left-is}
+use Rattle.pairing.specs.laws.Firsts.{mem-front, mem-last, marks-is, left-is}
 use Rattle.pairing.specs.Backwards.{isLast, lower, waiting, paired}
 
 -- all copies are used up, and each line not paired is the first of its text

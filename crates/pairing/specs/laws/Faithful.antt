@@ -14,9 +14,11 @@ use Rattle.theory.specs.laws.Keep.{map-onto, mem-onto}
 use Rattle.theory.specs.Pick.{good, bad, pick}
 use Rattle.theory.specs.Scan.{takenNext, scan}
 use Rattle.theory.specs.laws.Scan.{length-scan}
-use Rattle.pairing.specs.Pairing.{marks, left, told, firstsFrom, firsts}
+use Rattle.theory.specs.Firsts.{firstsFrom, firsts}
+use Rattle.theory.specs.laws.Firsts.{firsts-more, firsts-later}
+use Rattle.pairing.specs.Pairing.{marks, left, told}
 use Rattle.pairing.specs.laws.Pairing.{mark}
-use Rattle.pairing.specs.laws.Firsts.{mem-some, firsts-more, firsts-later, marks-is, left-is, told-marks}
+use Rattle.pairing.specs.laws.Firsts.{mem-some, marks-is, left-is, told-marks}
 
 -- f judges a line by its own fault, and a line without one by its key: 1 where a line taken before has that
 unfoldable pub Judges : (List ℕ → ℕ) → (List ℕ → List ℕ) → (List (List ℕ) → List ℕ → ℕ) → Type 0

@@ -1,14 +1,14 @@
 -- Verdicts of which each 0 stands at the first line of a text: the lines with another verdict, alone, say which have 0.
 -- Assumes nothing.
 use mathlib.Core.Path.{_≡_, refl, sym, ap, _∙_}
-use mathlib.Core.Bool.{Bool, true, false, not, _&&_, _||_, true≢false, false≢true}
-use mathlib.Core.List.{List, [], _∷_, _++_, map, append-assoc, append-nil}
-use Prim.Native.Nat.{ℕ, zero, suc, _<_}
+use mathlib.Core.Bool.{Bool, true, false, not, _&&_, _||_}
+use mathlib.Core.List.{List, [], _∷_, _++_, map}
+use Prim.Native.Nat.{ℕ, zero, suc}
 use native.Mathlib.Omega.{arith}
 use lib.Dec.{ltb}
-use lib.ListN.{length, take, getD}
-use borrow.Author.Tests.{lt-ltb, le-ltb, not-true}
-use Rattle.theory.specs.laws.Truth.{and-left, and-right, and-both, or-left, or-right, or-true, or-false}
+use lib.ListN.{length}
+use borrow.Author.Tests.{lt-ltb, le-ltb}
+use Rattle.theory.specs.laws.Truth.{or-left, or-right, or-true, or-false}
 use Rattle.theory.specs.Same.{eqs, mem}
 use Rattle.theory.specs.laws.Same.{eqs-refl, eqs-true, mem-append}
 use Rattle.theory.specs.Count.{bump, count}
@@ -16,7 +16,9 @@ use Rattle.theory.specs.laws.Count.{bump-and-eq, count-self}
 use Rattle.theory.specs.laws.Keep.{count-onto, count-onto-other}
 use Rattle.theory.specs.Pick.{good, bad, pick}
 use Rattle.theory.specs.laws.Pick.{bad-is}
-use Rattle.pairing.specs.Pairing.{isTaken, marksFrom, marks, left, told, firstsFrom, firsts}
+use Rattle.theory.specs.Firsts.{firstsFrom, firsts}
+use Rattle.theory.specs.laws.Firsts.{firsts-head, firsts-tail}
+use Rattle.pairing.specs.Pairing.{isTaken, marksFrom, marks, left, told}
 use Rattle.pairing.specs.laws.Pairing.{mark, pick-mark, told-is}
 
 -- ---- one line more in front
@@ -28,7 +30,7 @@ pub mem-last : (t : List ℕ) (before : List (List ℕ)) → mem t (before ++ t 
 unfolding mem
 mem-last t before = mem-append t before (t ∷ []) ∙ or-true (mem t before) _ (rw (eqs-refl t))
 
-pub mem-rest : (t : List ℕ) (before : List (List ℕ)) (x : List ℕ) → mem t (before ++ x ∷ []) ≡ false → (mem t before ≡ false) × (eqs t x ≡ false)
+mem-rest : (t : List ℕ) (before : List (List ℕ)) (x : List ℕ) → mem t (before ++ x ∷ []) ≡ false → (mem t before ≡ false) × (eqs t x ≡ false)
 unfolding mem
 mem-rest t before x h =
     let e : mem t before || (eqs t x || false) ≡ false = sym (mem-append t before (x ∷ [])) ∙ h in
@@ -37,64 +39,6 @@ mem-rest t before x h =
 pub mem-some : (t : List ℕ) (before : List (List ℕ)) (x : List ℕ) → mem t (before ++ x ∷ []) ≡ true → eqs t x ≡ false → mem t before ≡ true
 unfolding mem
 mem-some t before x h e = sym (or-false (mem t before)) ∙ sym (mem-append t before (x ∷ []) ∙ rw e) ∙ h
-
-mem-take : (ts : List (List ℕ)) (i k : ℕ) → i < k → k < length ts → mem (getD ts i []) (take k ts) ≡ true
-unfolding mem
-mem-take [] i k a b = absurd (omega arith)
-mem-take (t ∷ ts) i zero a b = absurd (omega arith)
-mem-take (t ∷ ts) zero (suc k) a b = rw (eqs-refl t)
-mem-take (t ∷ ts) (suc i) (suc k) a b = or-true (eqs (getD ts i []) t) _ (mem-take ts i k (omega arith) (omega arith))
-
--- ---- what the test says of a line, and of those behind it
-
-module _ (before : List (List ℕ)) (t : List ℕ) (ts : List (List ℕ)) (v : ℕ) (vs : List ℕ) (h : firstsFrom before (t ∷ ts) (v ∷ vs) ≡ true) where
-  pub firsts-head : mem t before ≡ true → good v ≡ false
-  unfolding firstsFrom
-  firsts-head m = go (good v) (mem t before) (and-left _ (firstsFrom (before ++ t ∷ []) ts vs) h) m
-    where
-      go : (a b : Bool) → not (a && b) ≡ true → b ≡ true → a ≡ false
-      go true true e m = absurd (false≢true e)
-      go true false e m = absurd (false≢true m)
-      go false b e m = refl
-
-  pub firsts-tail : firstsFrom (before ++ t ∷ []) ts vs ≡ true
-  unfolding firstsFrom
-  firsts-tail = and-right (not (good v && mem t before)) _ h
-
--- a line with the verdict 0 is the first of its text
-pub firsts-zero : (before : List (List ℕ)) (t : List ℕ) (ts : List (List ℕ)) (vs : List ℕ) → firstsFrom before (t ∷ ts) (0 ∷ vs) ≡ true → mem t before ≡ false
-unfolding firstsFrom good
-firsts-zero before t ts vs h = not-true (mem t before) (and-left _ (firstsFrom (before ++ t ∷ []) ts vs) h)
-
-pub firsts-more : (before : List (List ℕ)) (t : List ℕ) (ts : List (List ℕ)) (v : ℕ) (vs : List ℕ)
-    → (mem t before ≡ true → good v ≡ false) → firstsFrom (before ++ t ∷ []) ts vs ≡ true → firstsFrom before (t ∷ ts) (v ∷ vs) ≡ true
-unfolding firstsFrom
-firsts-more before t ts v vs g h = and-both _ _ (go (good v) (mem t before) g) h
-  where
-    go : (a b : Bool) → (b ≡ true → a ≡ false) → not (a && b) ≡ true
-    go true true k = absurd (true≢false (k refl))
-    go true false k = refl
-    go false b k = refl
-
--- ---- by their places
-
-module _ (ts : List (List ℕ)) (vs : List ℕ) (l : length vs ≡ length ts) (h : firsts ts vs ≡ true) where
-  -- a text that stands in front has another verdict than 0
-  pub firsts-at : (k : ℕ) → k < length ts → mem (getD ts k []) (take k ts) ≡ true → good (getD vs k 0) ≡ false
-  unfolding firsts
-  firsts-at k b m = go [] ts vs l h k b m
-    where
-      go : (before us : List (List ℕ)) (ws : List ℕ) → length ws ≡ length us → firstsFrom before us ws ≡ true → (k : ℕ) → k < length us
-          → mem (getD us k []) (before ++ take k us) ≡ true → good (getD ws k 0) ≡ false
-      go before [] ws q g k b m = absurd (omega arith)
-      go before (u ∷ us) [] q g k b m = absurd (omega arith)
-      go before (u ∷ us) (w ∷ ws) q g zero b m = firsts-head before u us w ws g (rw (append-nil before) at m)
-      go before (u ∷ us) (w ∷ ws) q g (suc k) b m =
-          go (before ++ u ∷ []) us ws (omega arith) (firsts-tail before u us w ws g) k (omega arith) (rw (append-assoc before (u ∷ []) (take k us)) m)
-
-  -- so has the later of two equal texts
-  pub firsts-later : (i k : ℕ) → i < k → k < length ts → getD ts i [] ≡ getD ts k [] → good (getD vs k 0) ≡ false
-  firsts-later i k a b e = firsts-at k b (rw (← e) (mem-take ts i k a b))
 
 -- ---- the marks read off
 

@@ -1,17 +1,14 @@
--- What the walks keep that pair lines with copies: one from the last line to the first, which counts the copies that wait
--- and writes a mark for each line, and one that asks whether each line marked 0 is the first of its text. Assumes nothing.
+-- What the walk keeps that pairs lines with copies, from the last line to the first: it counts the copies that wait and
+-- writes a mark for each line. Assumes nothing.
 use mathlib.Core.Path.{_≡_, refl, _∙_}
-use mathlib.Core.Bool.{Bool, true, false, not, _&&_}
+use mathlib.Core.Bool.{Bool, true, false}
 use mathlib.Core.List.{List, [], _∷_}
-use Prim.Native.Nat.{ℕ, zero, suc, _+_, _-_, _≤_, _<_}
-use native.Mathlib.Numerals.{add-one}
+use Prim.Native.Nat.{ℕ, zero, suc, _+_, _-_, _<_}
 use native.Mathlib.Omega.{arith}
-use lib.ListN.{length, take, drop, getD, set, drop-of-length-le}
-use lib.Seq.{take-suc, drop-cons, lt-length-set, drop-set-lt, getD-set-same}
-use Rattle.theory.specs.Same.{eqs, mem}
+use lib.ListN.{length, drop, getD, set, drop-of-length-le}
+use lib.Seq.{drop-cons, lt-length-set, drop-set-lt, getD-set-same}
+use Rattle.theory.specs.Same.{eqs}
 use Rattle.theory.specs.Count.{bump}
-use Rattle.theory.specs.Pick.{good}
-use Rattle.pairing.specs.Pairing.{firstsFrom, firsts}
 use Rattle.pairing.specs.Backwards.{isLast, lower, waiting, paired}
 
 -- ---- from the last line to the first: the lines from the place i on are paired, k copies wait, and ms are the marks
@@ -69,31 +66,3 @@ pub last-some : (copies : List (List ℕ)) (k : ℕ) (t : List ℕ) → 0 < k �
 unfolding isLast
 last-some copies zero t h = absurd (omega arith)
 last-some copies (suc k) t h = let e : suc k - 1 ≡ k = omega arith in rw e
-
--- ---- each line marked 0 is the first of its text: those from the place i on decide
-
-unfoldable pub FirstsFrom : List (List ℕ) → List ℕ → ℕ → Type 0
-FirstsFrom ts vs i = firsts ts vs ≡ firstsFrom (take i ts) (drop i ts) (drop i vs)
-
-module _ (ts : List (List ℕ)) (vs : List ℕ) where
-  pub firsts-start : FirstsFrom ts vs 0
-  unfolding FirstsFrom firsts
-  firsts-start = refl
-
-  module _ (i : ℕ) (h : FirstsFrom ts vs i) where
-    pub firsts-end : length ts ≤ i → firsts ts vs ≡ true
-    unfolding FirstsFrom firstsFrom
-    firsts-end l = h ∙ rw (drop-of-length-le ts l)
-
-    -- r says whether the line at i is marked 0 and its text stands in front
-    module _ (a : i < length ts) (b : i < length vs) (r : Bool) (e : r ≡ good (getD vs i 0) && mem (getD ts i []) (take i ts)) where
-      step : firsts ts vs ≡ not r && firstsFrom (take (suc i) ts) (drop (suc i) ts) (drop (suc i) vs)
-      unfolding FirstsFrom firstsFrom
-      step = h ∙ rw (drop-cons ts i [] a, drop-cons vs i 0 b, take-suc ts i [] a, ← e)
-
-      pub firsts-on : r ≡ false → FirstsFrom ts vs (i + 1)
-      unfolding FirstsFrom
-      firsts-on q = step ∙ rw (q, add-one i)
-
-      pub firsts-off : r ≡ true → firsts ts vs ≡ false
-      firsts-off q = step ∙ rw q

@@ -12,7 +12,7 @@ slice-aggregate-are-apart c = sym (length-cut _ 8192 _ (c .before .before .pre .
 
 are-apart-requires : tie.Need-are-apart-requires
 are-apart-requires c κs = let p = c .before .before .pre in
-    (cut-fits _ 8192 _ _ _ (p .1) (p .0), omega arith, omega arith)
+    (cut-fits _ 8192 _ _ _ (p .1) (p .0), (omega arith, omega arith))
 
 returns : tie.Need-returns
 returns c = all-asked _ _ (c .before .before .before .pre .1) _ _ (c .are-apart .ensures)

@@ -1,6 +1,6 @@
--- Some of the parts that were taken pass a test: a walk over the parts and their verdicts. Assumes nothing.
+-- Some of the parts that were taken pass a test, or each does: walks over the parts and their verdicts. Assumes nothing.
 use mathlib.Core.Path.{_≡_, refl, sym, _∙_}
-use mathlib.Core.Bool.{Bool, true, false, _&&_, _||_}
+use mathlib.Core.Bool.{Bool, true, false, not, _&&_, _||_}
 use mathlib.Core.List.{List, [], _∷_}
 use Prim.Native.Nat.{ℕ, zero, suc, _+_, _≤_, _<_}
 use native.Mathlib.Numerals.{add-one}
@@ -9,7 +9,7 @@ use lib.Dec.{eqb}
 use lib.ListN.{length, drop, getD}
 use lib.Seq.{drop-cons}
 use borrow.Author.Tests.{ne-eqb}
-use Rattle.theory.specs.Walk.{some}
+use Rattle.theory.specs.Walk.{each, some}
 use Rattle.theory.specs.Count.{bump}
 use Rattle.theory.specs.laws.Count.{bump-add}
 use Rattle.theory.specs.Keep.{onto, sift}
@@ -18,7 +18,7 @@ use Rattle.theory.specs.Pick.{good, pick}
 use Rattle.theory.specs.Parts.{chop, partAt}
 use Rattle.theory.specs.laws.Parts.{partsFrom, parts-start, parts-step, parts-end}
 
-pub some-onto : (q : List ℕ → Bool) (b : Bool) (x : List ℕ) (xs : List (List ℕ)) → some q (onto b x xs) ≡ (b && q x) || some q xs
+some-onto : (q : List ℕ → Bool) (b : Bool) (x : List ℕ) (xs : List (List ℕ)) → some q (onto b x xs) ≡ (b && q x) || some q xs
 unfolding some onto
 some-onto q true x xs = refl
 some-onto q false x xs = refl
@@ -106,3 +106,40 @@ module _ (q : List ℕ → Bool) (w n : ℕ) (vs b : List ℕ) where
         length-sift-onto : (c : Bool) (y : List ℕ) (ys : List (List ℕ)) → length (sift q (onto c y ys)) ≡ bump (c && q y) (length (sift q ys))
         length-sift-onto true y ys = length-onto (q y) y (sift q ys)
         length-sift-onto false y ys = refl
+
+-- ---- each of them passes: those from the place i on decide
+
+unfoldable pub EachAmong : (List ℕ → Bool) → ℕ → ℕ → List ℕ → List ℕ → ℕ → Type 0
+EachAmong q w n vs b i = each q (pick good vs (chop w n b)) ≡ each q (takenFrom w n vs b i)
+
+each-more : (q : List ℕ → Bool) (b : Bool) (x : List ℕ) (xs : List (List ℕ)) → each q (onto b x xs) ≡ not (b && not (q x)) && each q xs
+unfolding each onto
+each-more q true x xs = go (q x)
+  where
+    go : (r : Bool) → r && each q xs ≡ not (not r) && each q xs
+    go true = refl
+    go false = refl
+each-more q false x xs = refl
+
+module _ (q : List ℕ → Bool) (w n : ℕ) (vs b : List ℕ) where
+  pub each-among-start : EachAmong q w n vs b 0
+  unfolding EachAmong
+  each-among-start = rw (taken-start w n vs b)
+
+  module _ (i : ℕ) (a : EachAmong q w n vs b i) where
+    pub each-among-end : n ≤ i → each q (pick good vs (chop w n b)) ≡ true
+    unfolding EachAmong each
+    each-among-end h = a ∙ rw (taken-end w n vs b i h)
+
+    -- x is the part, r what the test said of it
+    module _ (h : i < n) (l : i < length vs) (x : List ℕ) (p : x ≡ partAt w i b) (r : Bool) (e : r ≡ q x) where
+      each-step : each q (pick good vs (chop w n b)) ≡ not (eqb (getD vs i 0) 0 && not r) && each q (takenFrom w n vs b (i + 1))
+      unfolding EachAmong
+      each-step = a ∙ rw (taken-step w n vs b i h l, each-more q (good (getD vs i 0)) (partAt w i b) (takenFrom w n vs b (i + 1)), good-is (getD vs i 0), ← p, ← e)
+
+      pub each-among-on : eqb (getD vs i 0) 0 && not r ≡ false → EachAmong q w n vs b (i + 1)
+      unfolding EachAmong
+      each-among-on t = each-step ∙ rw t
+
+      pub each-among-off : eqb (getD vs i 0) 0 && not r ≡ true → each q (pick good vs (chop w n b)) ≡ false
+      each-among-off t = each-step ∙ rw t

@@ -1,0 +1,4 @@
+pub mod Keys
+pub mod Less
+pub mod Promises
+pub mod laws
