@@ -1,5 +1,5 @@
--- L10, part by part: what a line says of the vehicle, its end and its separators. A rule's name stands for "it holds".
--- Assumes nothing.
+-- The two parts of L10: what a line says of the vehicle, its end and its separators, field by field; and the weight's limit.
+-- A rule's name stands for "it holds". Assumes nothing.
 use Prim.Native.Nat.{ℕ}
 use mathlib.Core.Bool.{Bool, not, _&&_, _||_}
 use mathlib.Core.List.{List}
@@ -41,16 +41,16 @@ validToHolds l = run zeroDigit 14 (validTo l) || realTime (validTo l)
 unfoldable pub separatorHolds : List ℕ → Bool
 separatorHolds l = separator (separatorOf l) (plateCharacters (plateOf l))
 
--- everything but emission and the weight's limit
+-- the fields of L10 but emission
 unfoldable pub fieldsHold : List ℕ → Bool
 fieldsHold l =
     run blank 6 (shadow l) && tariffHolds l && classHolds l && productHolds l && engineHolds l
     && run digit 2 (co2 l) && run digit 4 (weight l) && validToHolds l && separatorHolds l && run zeroDigit 11 (filler l)
 
--- tariff 12 or 22: a weight of at most 0350, in 10 kg; 0000 is missing
+-- what L10 asks of each field by itself, a weight of four digits among them
+unfoldable pub vehicleHolds : List ℕ → Bool
+vehicleHolds l = emissionHolds l && fieldsHold l
+
+-- the limit that L10 sets a weight by its tariff: with 12 or 22 at most 0350, in 10 kg; 0000 is missing and meets it
 unfoldable pub weightHolds : List ℕ → Bool
 weightHolds l = not (listed 2 (bytes "1222") (tariff l) && ltb 350 (number (weight l)))
-
--- L10 holds: none of its parts is broken
-unfoldable pub L10 : List ℕ → Bool
-L10 l = emissionHolds l && fieldsHold l && weightHolds l

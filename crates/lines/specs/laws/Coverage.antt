@@ -30,8 +30,8 @@ use Rattle.times.specs.laws.Moment.{within, real-length, real-all}
 use Rattle.pans.specs.Pan.{pan}
 use Rattle.plates.specs.Plate.{allowed, plate, nationality, separator, separated, plateCharacters}
 use Rattle.columns.specs.Columns.{text, actor, panOf, plateOf, nationalityOf, tariff, class, axles, emission, fuel, chargeable, productRest, engine, validTo, separatorOf}
-use Rattle.vehicles.specs.Vehicle.{L10, tariffHolds, classHolds, emissionHolds, productHolds, engineHolds, validToHolds, separatorHolds}
-use Rattle.vehicles.specs.laws.Parts.{Parts, l10-parts}
+use Rattle.vehicles.specs.Vehicle.{tariffHolds, classHolds, emissionHolds, productHolds, engineHolds, validToHolds, separatorHolds, vehicleHolds, weightHolds}
+use Rattle.vehicles.specs.laws.Parts.{Parts, vehicle-parts}
 use Rattle.lines.specs.Rules.{L1, L5, L6, L7, L8, L9, recordHolds}
 
 -- positions `from` to `to`, the rule that fixes them, and the bytes that it admits there
@@ -59,26 +59,26 @@ sixDigits l = run digit 6 (actor l)
 unfoldable pub rows : List Row
 rows =
     row 2 7 sixDigits digit
-    ∷ row 8 13 L10 blank
+    ∷ row 8 13 vehicleHolds blank
     ∷ row 14 32 L1 (orBlank digit)
     ∷ row 33 42 L6 (orBlank allowed)
     ∷ row 43 44 L7 capital
     ∷ row 45 45 L7 blank
-    ∷ row 46 47 L10 (oneOf (bytes "1234567"))
-    ∷ row 48 48 L10 (orBlank digit)
-    ∷ row 49 49 L10 (orBlank digit)
+    ∷ row 46 47 vehicleHolds (oneOf (bytes "1234567"))
+    ∷ row 48 48 vehicleHolds (orBlank digit)
+    ∷ row 49 49 vehicleHolds (orBlank digit)
     ∷ row 50 61 L8 hex
     ∷ row 62 79 L9 hex
-    ∷ row 80 85 L10 (oneOf (bytes "01234567EVuro "))
-    ∷ row 86 87 L10 (oneOf (bytes "01234569"))
-    ∷ row 88 88 L10 (oneOf (bytes "YN"))
-    ∷ row 89 91 L10 blank
-    ∷ row 92 94 L10 digit
-    ∷ row 95 96 L10 digit
-    ∷ row 97 100 L10 digit
-    ∷ row 101 114 L10 digit
-    ∷ row 115 116 L10 digit
-    ∷ row 117 127 L10 zeroDigit
+    ∷ row 80 85 vehicleHolds (oneOf (bytes "01234567EVuro "))
+    ∷ row 86 87 vehicleHolds (oneOf (bytes "01234569"))
+    ∷ row 88 88 vehicleHolds (oneOf (bytes "YN"))
+    ∷ row 89 91 vehicleHolds blank
+    ∷ row 92 94 vehicleHolds digit
+    ∷ row 95 96 vehicleHolds digit
+    ∷ row 97 100 vehicleHolds digit
+    ∷ row 101 114 vehicleHolds digit
+    ∷ row 115 116 vehicleHolds digit
+    ∷ row 117 127 vehicleHolds zeroDigit
     ∷ []
 
 -- the rows go from the position a to b, without gap or overlap
@@ -134,37 +134,37 @@ module _ (l : List ℕ) where
   digit-or-blank f h =
       either (run (orBlank digit) 1 f ≡ true) (run digit 1 f) (run blank 1 f) h (run-wider digit (orBlank digit) (λ b e. rw e) 1 f) (run-wider blank (orBlank digit) (λ b. or-true (digit b) (blank b)) 1 f)
 
-  class-held : classHolds l ≡ true → Held l (row 48 48 L10 (orBlank digit)) × Held l (row 49 49 L10 (orBlank digit))
+  class-held : classHolds l ≡ true → Held l (row 48 48 vehicleHolds (orBlank digit)) × Held l (row 49 49 vehicleHolds (orBlank digit))
   unfolding classHolds
   class-held h =
       let s = and-split (run digit 1 (class l) || run blank 1 (class l)) (run digit 1 (axles l) || run blank 1 (axles l)) h in
       (digit-or-blank (class l) (s .0), digit-or-blank (axles l) (s .1))
 
-  tariff-held : tariffHolds l ≡ true → Held l (row 46 47 L10 (oneOf (bytes "1234567")))
+  tariff-held : tariffHolds l ≡ true → Held l (row 46 47 vehicleHolds (oneOf (bytes "1234567")))
   unfolding tariffHolds all oneOf
   tariff-held = listed-run (oneOf (bytes "1234567")) 2 _ (tariff l) refl
 
-  emission-held : emissionHolds l ≡ true → Held l (row 80 85 L10 (oneOf (bytes "01234567EVuro ")))
+  emission-held : emissionHolds l ≡ true → Held l (row 80 85 vehicleHolds (oneOf (bytes "01234567EVuro ")))
   unfolding emissionHolds all oneOf
   emission-held = listed-run (oneOf (bytes "01234567EVuro ")) 6 _ (emission l) refl
 
-  engine-held : engineHolds l ≡ true → Held l (row 92 94 L10 digit)
+  engine-held : engineHolds l ≡ true → Held l (row 92 94 vehicleHolds digit)
   unfolding engineHolds
   engine-held = and-left (run digit 3 (engine l)) (leb (number (engine l)) 52 || eqb (number (engine l)) 255)
 
-  valid-held : validToHolds l ≡ true → Held l (row 101 114 L10 digit)
+  valid-held : validToHolds l ≡ true → Held l (row 101 114 vehicleHolds digit)
   unfolding validToHolds
   valid-held h =
       either (run digit 14 (validTo l) ≡ true) (run zeroDigit 14 (validTo l)) (realTime (validTo l)) h (run-wider zeroDigit digit zero-digit 14 (validTo l))
       (λ r. all-run digit 14 (validTo l) (real-length (validTo l) r) (real-all (validTo l) r))
 
-  separator-held : separatorHolds l ≡ true → Held l (row 115 116 L10 digit)
+  separator-held : separatorHolds l ≡ true → Held l (row 115 116 vehicleHolds digit)
   unfolding separatorHolds separator
   separator-held =
       let f : List ℕ = separatorOf l in
       and-left (run digit 2 f) (separated (number (field 1 1 f)) (number (field 2 2 f)) (plateCharacters (plateOf l)))
 
-  product-held : productHolds l ≡ true → Held l (row 86 87 L10 (oneOf (bytes "01234569"))) × Held l (row 88 88 L10 (oneOf (bytes "YN"))) × Held l (row 89 91 L10 blank)
+  product-held : productHolds l ≡ true → Held l (row 86 87 vehicleHolds (oneOf (bytes "01234569"))) × Held l (row 88 88 vehicleHolds (oneOf (bytes "YN"))) × Held l (row 89 91 vehicleHolds blank)
   unfolding productHolds all oneOf
   product-held h =
       let s₂ = and-split (listed 2 (bytes "01020304050609101112131415202122") (fuel l) && listed 1 (bytes "YN") (chargeable l)) (run blank 3 (productRest l)) h in
@@ -175,7 +175,7 @@ module _ (l : List ℕ) where
   pub rows-hold : Each (λ r. r .rule l ≡ true → Held l r) rows
   unfolding rows L8 L9
   rows-hold =
-      let part : L10 l ≡ true → Parts l = l10-parts l in
+      let part : vehicleHolds l ≡ true → Parts l = vehicle-parts l in
       more (λ h. h)
       (more (λ h. part h .shadow-blank)
       (more pan-held
@@ -201,12 +201,12 @@ module _ (l : List ℕ) where
   -- the rules of a record are those of the rows
   pub record-rules : recordHolds l ≡ true → Each (λ r. r .rule l ≡ true) rows
   unfolding recordHolds rows joined
-  record-rules h = go (joined-each (sixDigits l) (L1 l ∷ L5 l ∷ L6 l ∷ L7 l ∷ L8 l ∷ L9 l ∷ L10 l ∷ []) h)
+  record-rules h = go (joined-each (sixDigits l) (L1 l ∷ L5 l ∷ L6 l ∷ L7 l ∷ L8 l ∷ L9 l ∷ vehicleHolds l ∷ weightHolds l ∷ []) h)
     where
-      go : Each (λ b. b ≡ true) (sixDigits l ∷ L1 l ∷ L5 l ∷ L6 l ∷ L7 l ∷ L8 l ∷ L9 l ∷ L10 l ∷ []) → Each (λ r. r .rule l ≡ true) rows
-      go (more a (more l1 (more l5 (more l6 (more l7 (more l8 (more l9 (more l10 none)))))))) =
-          more a (more l10 (more l1 (more l6 (more l7 (more l7 (more l10 (more l10 (more l10 (more l8 (more l9
-          (more l10 (more l10 (more l10 (more l10 (more l10 (more l10 (more l10 (more l10 (more l10 (more l10 none))))))))))))))))))))
+      go : Each (λ b. b ≡ true) (sixDigits l ∷ L1 l ∷ L5 l ∷ L6 l ∷ L7 l ∷ L8 l ∷ L9 l ∷ vehicleHolds l ∷ weightHolds l ∷ []) → Each (λ r. r .rule l ≡ true) rows
+      go (more a (more l1 (more l5 (more l6 (more l7 (more l8 (more l9 (more v (more w none))))))))) =
+          more a (more v (more l1 (more l6 (more l7 (more l7 (more v (more v (more v (more l8 (more l9
+          (more v (more v (more v (more v (more v (more v (more v (more v (more v (more v none))))))))))))))))))))
 
   -- T17: so where the rules of a record hold, all positions do
   pub record-covered : recordHolds l ≡ true → Each (Held l) rows
@@ -268,12 +268,12 @@ module _ (l : List ℕ) where
       (omega arith, rw (w, field-split a b (r .to) l o n m) (run-append q (r .to + 1 - a) (b + 1 - (r .to + 1)) (field a (r .to) l) (field (r .to + 1) b l) here (rest .1)))
 
   -- blanks are refused in 92-116: there zeros mean missing
-  pub blanks-refused : L10 l ≡ true → run digit 25 (field 92 116 l) ≡ true
+  pub blanks-refused : vehicleHolds l ≡ true → run digit 25 (field 92 116 l) ≡ true
   unfolding cover
   blanks-refused h =
-      let m : Parts l = l10-parts l h in
+      let m : Parts l = vehicle-parts l h in
       let digits : (x : ℕ) → digit x ≡ true → digit x ≡ true = λ x e. e in
-      rows-run digit (row 92 94 L10 digit ∷ row 95 96 L10 digit ∷ row 97 100 L10 digit ∷ row 101 114 L10 digit ∷ row 115 116 L10 digit ∷ []) 92 116 (omega arith) refl
+      rows-run digit (row 92 94 vehicleHolds digit ∷ row 95 96 vehicleHolds digit ∷ row 97 100 vehicleHolds digit ∷ row 101 114 vehicleHolds digit ∷ row 115 116 vehicleHolds digit ∷ []) 92 116 (omega arith) refl
       (more (engine-held (m .engine-holds), digits)
       (more (m .co2-digits, digits)
       (more (m .weight-digits, digits)

@@ -18,9 +18,9 @@ use Rattle.texts.specs.Field.{field}
 use Rattle.fields.specs.Field.{digit, capital, blank}
 use Rattle.times.specs.laws.Moment.{within}
 use Rattle.plates.specs.Plate.{nationality}
-use Rattle.vehicles.specs.Vehicle.{L10}
+use Rattle.vehicles.specs.Vehicle.{vehicleHolds, weightHolds}
 use Rattle.columns.specs.Columns.{actor, nationalityOf}
-use Rattle.lines.specs.Rules.{L1, L2, L3, L4, L5, L6, L7, L8, L9, stateless, lineRules, lineFault, recordHolds}
+use Rattle.lines.specs.Rules.{L1, L2, L3, L4, L5, L6, L7, L8, L9, L10, stateless, lineRules, lineFault, recordHolds}
 use Rattle.lines.specs.Faultless.{Faultless}
 
 -- two capitals are no blanks
@@ -62,8 +62,10 @@ module _ (rows sender l : List ℕ) where
 
   -- it is then a record of the sender
   pub faultless-record : Faultless rows sender l → run digit 6 sender ≡ true → recordHolds l ≡ true
-  unfolding recordHolds L2
-  faultless-record f d = rw (eqs-true (actor l) sender (f .l2), d, f .l1, f .l5, f .l6, f .l7, f .l8, f .l9, f .l10)
+  unfolding recordHolds L2 L10
+  faultless-record f d =
+      let s = and-split (vehicleHolds l) (weightHolds l) (f .l10) in
+      rw (eqs-true (actor l) sender (f .l2), d, f .l1, f .l5, f .l6, f .l7, f .l8, f .l9, s .0, s .1)
 
   -- and only then
   pub faultless-none : Faultless rows sender l → lineFault rows sender l ≡ 0
