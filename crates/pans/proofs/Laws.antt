@@ -10,6 +10,7 @@ use lib.Dec.{leb, eqb}
 use lib.ListN.{length, take, drop, getD, length-drop, drop-of-length-le}
 use lib.Seq.{drop-cons}
 use borrow.Author.Tests.{leb-true, eq-eqb, ne-eqb}
+use Rattle.theory.specs.Text.{byte}
 use Rattle.theory.specs.laws.Truth.{and-left, and-right}
 use Rattle.theory.specs.Every.{all}
 use Rattle.theory.specs.laws.Every.{all-at}
@@ -17,11 +18,11 @@ use Rattle.fields.specs.Field.{digit}
 use Rattle.pans.specs.Pan.{doubled, counted, luhnSum}
 
 -- a digit's byte lies between '0' and '9'
-pub digits-at : (s : List ℕ) (i : ℕ) → all digit s ≡ true → i < length s → (48 ≤ getD s i 0) × (getD s i 0 ≤ 57)
+pub digits-at : (s : List ℕ) (i : ℕ) → all digit s ≡ true → i < length s → (byte "0" ≤ getD s i 0) × (getD s i 0 ≤ byte "9")
 digits-at s i h l =
     let b : ℕ = getD s i 0 in
     let e : digit b ≡ true = all-at digit s i h l in
-    (leb-true 48 b (and-left (leb 48 b) (leb b 57) e), leb-true b 57 (and-right (leb 48 b) (leb b 57) e))
+    (leb-true (byte "0") b (and-left (leb (byte "0") b) (leb b (byte "9")) e), leb-true b (byte "9") (and-right (leb (byte "0") b) (leb b (byte "9")) e))
 
 pub doubled-small : (d : ℕ) → d < 10 → doubled d < 10
 unfolding doubled
@@ -44,7 +45,7 @@ pub record Summing (s : List ℕ) (sum i : ℕ) : Type 0 where
 pub sum-start : (s : List ℕ) → Summing s 0 0
 sum-start s = record { within = omega arith; last = omega arith; whole = rw zero-add refl }
 
-pub sum-turn : (s : List ℕ) (sum i c : ℕ) → Summing s sum i → i < length s → c ≡ counted (getD s i 0 - 48) (length s - 1 - i)
+pub sum-turn : (s : List ℕ) (sum i c : ℕ) → Summing s sum i → i < length s → c ≡ counted (getD s i 0 - byte "0") (length s - 1 - i)
     → Summing s ((sum + c) % 10) (i + 1)
 unfolding luhnSum
 sum-turn s sum i c v h e =

@@ -4,6 +4,7 @@ use mathlib.Core.Bool.{Bool, cond, _&&_}
 use mathlib.Core.List.{List, [], _∷_}
 use lib.Dec.{eqb}
 use lib.ListN.{length, take}
+use Rattle.theory.specs.Text.{byte}
 use Rattle.theory.specs.Every.{leading}
 use Rattle.fields.specs.Field.{digit}
 use Rattle.characters.specs.Characters.{filled}
@@ -31,7 +32,7 @@ counted d behind = cond (eqb (behind % 2) 1) (doubled d) d
 -- the Luhn sum of digits, check digit last
 unfoldable pub luhnSum : List ℕ → ℕ
 luhnSum [] = 0
-luhnSum (x ∷ xs) = counted (x - 48) (length xs) + luhnSum xs
+luhnSum (x ∷ xs) = counted (x - byte "0") (length xs) + luhnSum xs
 
 -- L5: the Luhn sum of the digits is a multiple of ten
 unfoldable pub luhn : List ℕ → Bool

@@ -52,7 +52,7 @@ fn luhn_sum(digits: &[u8]) -> u64
     let mut sum: u64 = 0;
     let mut i: usize = 0;
     while i < n {
-        let d = (digits[i] - 48) as u64;
+        let d = (digits[i] - b'0') as u64;
         sum = last_digit(sum + counted(d, n - 1 - i));
         i += 1;
     }

@@ -10,7 +10,7 @@ use lib.Dec.{eqb, leb}
 use lib.ListN.{length, take, drop, getD}
 use lib.Seq.{getD-take, getD-drop}
 use borrow.Author.Tests.{eqb-true, leb-true, leb-false, le-leb, not-true}
-use Rattle.theory.specs.Text.{bytes}
+use Rattle.theory.specs.Text.{byte, bytes}
 use Rattle.theory.specs.laws.Truth.{and-left, and-right, and-split, or-true, joined, joined-each}
 use Rattle.theory.specs.Each.{Each, none, more}
 use Rattle.theory.specs.laws.Each.{each-map, each-both}
@@ -107,7 +107,7 @@ either P true b h f g = f refl
 either P false b h f g = g h
 
 zero-digit : (b : ℕ) → zeroDigit b ≡ true → digit b ≡ true
-zero-digit b h = let s = within 48 48 b h in let e : b ≡ 48 = omega arith in rw e
+zero-digit b h = let s = within (byte "0") (byte "0") b h in let e : b ≡ byte "0" = omega arith in rw e
 
 module _ (l : List ℕ) where
   pan-held : L1 l ≡ true → Held l (row 14 32 L1 (orBlank digit))

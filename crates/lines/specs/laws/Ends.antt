@@ -7,6 +7,7 @@ use native.Mathlib.Nat.{max-eq-left, max-eq-right}
 use native.Mathlib.Omega.{arith}
 use lib.Dec.{ltb}
 use borrow.Author.Tests.{ltb-true, ltb-false}
+use Rattle.theory.specs.Text.{byte}
 use Rattle.theory.specs.laws.Truth.{and-left, and-right}
 use Rattle.theory.specs.Every.{all, run}
 use Rattle.theory.specs.laws.Every.{run-all, all-take}
@@ -23,8 +24,8 @@ zeros-number : (s : List ℕ) → all zeroDigit s ≡ true → numberAfter 0 s �
 unfolding all numberAfter
 zeros-number [] h = refl
 zeros-number (x ∷ s) h =
-    let z : (48 ≤ x) × (x ≤ 48) = within 48 48 x (and-left (zeroDigit x) (all zeroDigit s) h) in
-    let e : 0 * 10 + (x - 48) ≡ 0 = omega arith in
+    let z : (byte "0" ≤ x) × (x ≤ byte "0") = within (byte "0") (byte "0") x (and-left (zeroDigit x) (all zeroDigit s) h) in
+    let e : 0 * 10 + (x - byte "0") ≡ 0 = omega arith in
     rw e (zeros-number s (and-right (zeroDigit x) (all zeroDigit s) h))
 
 -- zeros are no real time, since there is no year 0000

@@ -8,6 +8,7 @@ use lib.Dec.{eqb}
 use lib.ListN.{length, take, getD}
 use lib.Seq.{getD-take}
 use borrow.Author.Tests.{not-false}
+use Rattle.theory.specs.Text.{byte}
 use Rattle.theory.specs.First.{None, none, more, choose, first}
 use Rattle.theory.specs.laws.First.{first-clear, numbered}
 use Rattle.theory.specs.laws.Same.{eqs-true}
@@ -38,7 +39,7 @@ stateful l h = go (run blank 3 (nationalityOf l)) refl
         let m : length f ≡ 3 = run-length blank 3 f e in
         let x : capital (getD (take 2 f) 0 0) ≡ true = all-at capital (field 1 2 f) 0 (run-all capital 2 (field 1 2 f) c) (omega arith) in
         let y : blank (getD f 0 0) ≡ true = all-at blank f 0 (run-all blank 3 f e) (omega arith) in
-        absurd (omega (arith, within 65 90 (getD (take 2 f) 0 0) x, within 32 32 (getD f 0 0) y, getD-take 2 f 0 0 (omega arith)))
+        absurd (omega (arith, within (byte "A") (byte "Z") (getD (take 2 f) 0 0) x, within (byte " ") (byte " ") (getD f 0 0) y, getD-take 2 f 0 0 (omega arith)))
 
 module _ (rows sender l : List ℕ) where
   pub faultless : lineFault rows sender l ≡ 0 → Faultless rows sender l
