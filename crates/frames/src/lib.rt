@@ -18,7 +18,7 @@ const FOOTER_ZEROS_FROM: usize = 2;
 
 const FOOTER_ZEROS_TO: usize = 63;
 
-const FOOTER_END: usize = 64;
+const FOOTER_END: usize = sizes::FOOTER;
 
 // The least byte of a line's text.
 const PLAIN: u8 = 32;
@@ -26,17 +26,17 @@ const PLAIN: u8 = 32;
 fn footer<'a>(h: &'a [u8]) -> &'a [u8]
     ensures { λ r. ⌜ now r ≡ footer (now (h .entry)) ⌝ }
 {
-    if h.len() < hgv::FOOTER {
+    if h.len() < sizes::FOOTER {
         return &h[0..];
     }
-    let start = h.len() - hgv::FOOTER;
+    let start = h.len() - sizes::FOOTER;
     &h[start..]
 }
 
 pub fn is_footer(f: &[u8]) -> bool
     ensures { λ r. ⌜ IsFooter (now (f .entry)) r ⌝ }
 {
-    (f.len() == hgv::FOOTER)
+    (f.len() == sizes::FOOTER)
         & texts::has_text(f, FOOTER_TYPE, FOOTER_TYPE, b"2")
         & fields::is_zeros(texts::field(f, FOOTER_ZEROS_FROM, FOOTER_ZEROS_TO), 62)
         & texts::has_text(f, FOOTER_END, FOOTER_END, b"\n")

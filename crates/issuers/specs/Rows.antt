@@ -9,18 +9,12 @@ use Rattle.theory.specs.Same.{eqs}
 use Rattle.theory.specs.Every.{run, leading}
 use Rattle.theory.specs.Parts.{chop}
 use Rattle.theory.specs.Walk.{each, some}
+use Rattle.sizes.specs.Sizes.{rowLength, rowsMost}
 use Rattle.issuers.specs.declared.Issued.{Issued}
 use Rattle.texts.specs.Field.{field}
 use Rattle.fields.specs.Field.{digit}
 use Rattle.characters.specs.Characters.{filled}
 use Rattle.numbers.specs.Number.{number}
-
--- a row's length, and the most rows
-abbrev pub rowLength : ℕ
-rowLength = 24
-
-abbrev pub rowsMost : ℕ
-rowsMost = 64
 
 -- BIN and extension 14, length of BIN ID 2, length of PAN 2, actor 6
 abbrev pub bin : List ℕ → List ℕ

@@ -7,6 +7,7 @@ ghost use Prim.Native.Nat.{_*_, _≤_};
 ghost use lib.ListN.{length, take};
 ghost use Rattle.theory.specs.Parts.{chop};
 ghost use Rattle.theory.specs.Walk.{each};
+ghost use Rattle.sizes.specs.Sizes.{rowLength};
 ghost use Rattle.issuers.specs.Rows.{row, sentBy, beginning, panLength};
 ghost use Rattle.issuers.specs.Promises.{AreRows, IsKnown, IssuedTo};
 
@@ -16,10 +17,6 @@ pub struct Issued {
     pub begins: bool,
     pub fits: bool,
 }
-
-const ROW: usize = 24;
-
-const ROWS: usize = 64;
 
 const BIN_FROM: usize = 1;
 
@@ -59,12 +56,12 @@ fn is_row(r: &[u8]) -> bool
 }
 
 fn each_row(b: &[u8], n: usize) -> bool
-    requires { ⌜ n * 24 ≤ length (now b) ⌝ }
-    ensures { λ r. ⌜ r ≡ each row (chop 24 n (now (b .entry))) ⌝ }
+    requires { ⌜ n * rowLength ≤ length (now b) ⌝ }
+    ensures { λ r. ⌜ r ≡ each row (chop rowLength n (now (b .entry))) ⌝ }
 {
     let mut i: usize = 0;
     while i < n {
-        if !is_row(texts::part(b, ROW, i)) {
+        if !is_row(texts::part(b, sizes::ROW, i)) {
             return false;
         }
         i += 1;
@@ -75,8 +72,8 @@ fn each_row(b: &[u8], n: usize) -> bool
 pub fn are_rows(b: &[u8]) -> bool
     ensures { λ r. ⌜ AreRows (now (b .entry)) r ⌝ }
 {
-    let n = b.len() / ROW;
-    (b.len() % ROW == 0) & (n <= ROWS) & each_row(b, n)
+    let n = b.len() / sizes::ROW;
+    (b.len() % sizes::ROW == 0) & (n <= sizes::ROWS_MOST) & each_row(b, n)
 }
 
 fn is_sent_by(sender: &[u8], r: &[u8]) -> bool
@@ -89,11 +86,11 @@ fn is_sent_by(sender: &[u8], r: &[u8]) -> bool
 pub fn is_known(b: &[u8], sender: &[u8]) -> bool
     ensures { λ r. ⌜ IsKnown (now (b .entry)) (now (sender .entry)) r ⌝ }
 {
-    let n = b.len() / ROW;
+    let n = b.len() / sizes::ROW;
     let mut found = false;
     let mut i: usize = 0;
     while i < n {
-        found = found | is_sent_by(sender, texts::part(b, ROW, i));
+        found = found | is_sent_by(sender, texts::part(b, sizes::ROW, i));
         i += 1;
     }
     found
@@ -128,13 +125,13 @@ fn is_fitting(r: &[u8], begins: bool, digits: usize) -> bool
 pub fn issued_to(b: &[u8], sender: &[u8], pan: &[u8]) -> Issued
     ensures { λ r. ⌜ IssuedTo (now (b .entry)) (now (sender .entry)) (now (pan .entry)) r ⌝ }
 {
-    let n = b.len() / ROW;
+    let n = b.len() / sizes::ROW;
     let digits = characters::digits_in(pan);
     let mut begins = false;
     let mut fits = false;
     let mut i: usize = 0;
     while i < n {
-        let r = texts::part(b, ROW, i);
+        let r = texts::part(b, sizes::ROW, i);
         let t = is_beginning(sender, pan, r);
         begins = begins | t;
         fits = fits | is_fitting(r, t, digits);

@@ -16,9 +16,9 @@ module _ (text : List ℕ) (from to : ℕ) where
   unfolding field
   field-none h = let k : length text ≤ from - 1 = omega arith in rw (drop-of-length-le text) (sym (take-nil (to + 1 - from)))
 
-  pub field-short : from ≤ length text → length text < to → take (length text - (from - 1)) (drop (from - 1) text) ≡ field from to text
+  pub field-cut : from ≤ length text → length text < to → take (length text - (from - 1)) (drop (from - 1) text) ≡ field from to text
   unfolding field
-  field-short h k =
+  field-cut h k =
       take-all (length text - (from - 1)) (drop (from - 1) text) (rw length-drop (omega arith))
       ∙ sym (take-all (to + 1 - from) (drop (from - 1) text) (rw length-drop (omega arith)))
 

@@ -6,6 +6,7 @@ use mathlib.Core.List.{List}
 use lib.Dec.{eqb, leb, ltb}
 use Rattle.theory.specs.Text.{bytes}
 use Rattle.theory.specs.Every.{run}
+use Rattle.sizes.specs.Sizes.{timeLength}
 use Rattle.texts.specs.Field.{listed}
 use Rattle.fields.specs.Field.{digit, zeroDigit, blank}
 use Rattle.numbers.specs.Number.{number}
@@ -35,7 +36,7 @@ engineHolds l = run digit 3 (engine l) && (leb (number (engine l)) 52 || eqb (nu
 
 -- Valid to: 14 zeros or a real time
 unfoldable pub validToHolds : List ℕ → Bool
-validToHolds l = run zeroDigit 14 (validTo l) || realTime (validTo l)
+validToHolds l = run zeroDigit timeLength (validTo l) || realTime (validTo l)
 
 -- separator, of a plate of so many characters
 unfoldable pub separatorHolds : List ℕ → Bool

@@ -73,7 +73,7 @@ fn has_valid_to(l: &[u8]) -> bool
     ensures { λ r. ⌜ r ≡ validToHolds (now (l .entry)) ⌝ }
 {
     let valid_to = texts::field(l, columns::VALID_TO_FROM, columns::VALID_TO_TO);
-    if fields::is_zeros(valid_to, 14) {
+    if fields::is_zeros(valid_to, sizes::TIME) {
         return true;
     }
     times::is_real_time(valid_to)

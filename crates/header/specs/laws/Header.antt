@@ -7,6 +7,7 @@ use Rattle.theory.specs.Text.{bytes}
 use Rattle.theory.specs.Same.{eqs}
 use Rattle.theory.specs.Every.{run}
 use Rattle.theory.specs.laws.Truth.{and-left, and-right}
+use Rattle.sizes.specs.Sizes.{headerLength}
 use Rattle.texts.specs.Field.{field, lineEnd}
 use Rattle.fields.specs.Field.{digit, zeroDigit}
 use Rattle.times.specs.Time.{realTime}
@@ -32,7 +33,7 @@ module _ (h : List ℕ) (e : headerHolds h ≡ true) where
       (and-left (upSequence && previousHolds h && run zeroDigit 14 (field 52 65 h)) (run digit 15 (count h))
       (and-left upCount (realTime (creation h))
       (and-left (upCount && realTime (creation h)) (run zeroDigit 27 (field 101 127 h))
-      (and-left (upCount && realTime (creation h) && run zeroDigit 27 (field 101 127 h)) (eqs (field 128 128 h) lineEnd) e)))))
+      (and-left (upCount && realTime (creation h) && run zeroDigit 27 (field 101 127 h)) (eqs (field headerLength headerLength h) lineEnd) e)))))
 
   pub header-sequence : sequence (sender h) (listSequence h) ≡ true
   header-sequence = and-right (upSender && run digit 6 (receiver h)) (sequence (sender h) (listSequence h)) front

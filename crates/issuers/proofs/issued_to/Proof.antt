@@ -4,13 +4,14 @@ use Prim.Native.Nat.{_≤_, _-_}
 use native.Mathlib.Omega.{arith}
 use Rattle.theory.specs.laws.Parts.{whole-fits}
 use Rattle.theory.specs.laws.Walk.{SomeFrom, some-start, some-turn, some-end}
+use Rattle.sizes.specs.Sizes.{rowLength}
 use Rattle.issuers.specs.Rows.{beginning, fitting, begun, fitted}
 use Rattle.issuers.proofs.Laws.{fitting-is, issued-is}
 use Rattle.issuers.proofs.issued_to.Statement.{statement}
 use Rattle.issuers.proofs.issued_to.Tie as tie
 
 abbrev Inv-loop : tie.InvT-loop
-Inv-loop b sender pan n digits begins₀ fits₀ i₀ begins fits i = (i ≤ n) × (SomeFrom (beginning sender pan) 24 n b i begins × SomeFrom (fitting sender pan) 24 n b i fits)
+Inv-loop b sender pan n digits begins₀ fits₀ i₀ begins fits i = (i ≤ n) × (SomeFrom (beginning sender pan) rowLength n b i begins × SomeFrom (fitting sender pan) rowLength n b i fits)
 
 abbrev μ-loop : tie.MeasureT-loop
 μ-loop b sender pan n digits begins₀ fits₀ i₀ begins fits i = n - i
@@ -19,7 +20,7 @@ loop-holds : tie.Need-loop-holds Inv-loop μ-loop
 loop-holds c = (omega arith, (some-start _ _ _ _, some-start _ _ _ _))
 
 part-requires : tie.Need-part-requires Inv-loop μ-loop
-part-requires c κs = whole-fits 24 _ _ (c .loop-test .taken)
+part-requires c κs = whole-fits rowLength _ _ (c .loop-test .taken)
 
 loop-again : tie.Need-loop-again Inv-loop μ-loop
 loop-again c =

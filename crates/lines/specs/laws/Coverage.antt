@@ -18,6 +18,7 @@ use Rattle.theory.specs.Every.{all, run}
 use Rattle.theory.specs.laws.Every.{run-length, run-all, all-run, all-at, run-wider, run-append}
 use Rattle.theory.specs.Table.{tableFrom, tableOf}
 use Rattle.theory.specs.laws.Table.{entry, length-table}
+use Rattle.sizes.specs.Sizes.{timeLength}
 use Rattle.texts.specs.Field.{field, listed}
 use Rattle.texts.specs.laws.Field.{field-most, field-split, field-field}
 use Rattle.fields.specs.Field.{between, digit, zeroDigit, blank, capital, plain}
@@ -27,8 +28,8 @@ use Rattle.characters.specs.laws.Filled.{filled-all}
 use Rattle.numbers.specs.Number.{number}
 use Rattle.times.specs.Time.{realTime}
 use Rattle.times.specs.laws.Moment.{within, real-length, real-all}
-use Rattle.pans.specs.Pan.{pan}
-use Rattle.plates.specs.Plate.{allowed, plate, nationality, separator, separated, plateCharacters}
+use Rattle.pans.specs.Pan.{panLength, pan}
+use Rattle.plates.specs.Plate.{allowed, plateLength, plate, nationality, separator, separated, plateCharacters}
 use Rattle.columns.specs.Columns.{text, actor, panOf, plateOf, nationalityOf, tariff, class, axles, emission, fuel, chargeable, productRest, engine, validTo, separatorOf}
 use Rattle.vehicles.specs.Vehicle.{tariffHolds, classHolds, emissionHolds, productHolds, engineHolds, validToHolds, separatorHolds, vehicleHolds, weightHolds}
 use Rattle.vehicles.specs.laws.Parts.{Parts, vehicle-parts}
@@ -113,14 +114,14 @@ module _ (l : List ℕ) where
   pan-held : L1 l ≡ true → Held l (row 14 32 L1 (orBlank digit))
   unfolding L1 pan
   pan-held h =
-      let s = and-split (eqb (length (panOf l)) 19) (filled digit (panOf l)) h in
-      all-run (orBlank digit) 19 (panOf l) (eqb-true (length (panOf l)) 19 (s .0)) (filled-all digit (panOf l) (s .1))
+      let s = and-split (eqb (length (panOf l)) panLength) (filled digit (panOf l)) h in
+      all-run (orBlank digit) panLength (panOf l) (eqb-true (length (panOf l)) panLength (s .0)) (filled-all digit (panOf l) (s .1))
 
   plate-held : L6 l ≡ true → Held l (row 33 42 L6 (orBlank allowed))
   unfolding L6 plate
   plate-held h =
-      let s = and-split (eqb (length (plateOf l)) 10) (filled allowed (plateOf l)) h in
-      all-run (orBlank allowed) 10 (plateOf l) (eqb-true (length (plateOf l)) 10 (s .0)) (filled-all allowed (plateOf l) (s .1))
+      let s = and-split (eqb (length (plateOf l)) plateLength) (filled allowed (plateOf l)) h in
+      all-run (orBlank allowed) plateLength (plateOf l) (eqb-true (length (plateOf l)) plateLength (s .0)) (filled-all allowed (plateOf l) (s .1))
 
   nationality-held : L7 l ≡ true → Held l (row 43 44 L7 capital) × Held l (row 45 45 L7 blank)
   unfolding L7 nationality
@@ -155,8 +156,8 @@ module _ (l : List ℕ) where
   valid-held : validToHolds l ≡ true → Held l (row 101 114 vehicleHolds digit)
   unfolding validToHolds
   valid-held h =
-      either (run digit 14 (validTo l) ≡ true) (run zeroDigit 14 (validTo l)) (realTime (validTo l)) h (run-wider zeroDigit digit zero-digit 14 (validTo l))
-      (λ r. all-run digit 14 (validTo l) (real-length (validTo l) r) (real-all (validTo l) r))
+      either (run digit timeLength (validTo l) ≡ true) (run zeroDigit timeLength (validTo l)) (realTime (validTo l)) h (run-wider zeroDigit digit zero-digit timeLength (validTo l))
+      (λ r. all-run digit timeLength (validTo l) (real-length (validTo l) r) (real-all (validTo l) r))
 
   separator-held : separatorHolds l ≡ true → Held l (row 115 116 vehicleHolds digit)
   unfolding separatorHolds separator

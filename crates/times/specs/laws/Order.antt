@@ -11,6 +11,7 @@ use borrow.Author.Tests.{eqb-true, ltb-true, ltb-false, eq-eqb, lt-ltb, le-ltb}
 use Rattle.theory.specs.Text.{byte}
 use Rattle.theory.specs.laws.Truth.{and-left, and-right, or-left, or-right}
 use Rattle.theory.specs.Every.{all}
+use Rattle.sizes.specs.Sizes.{timeLength}
 use Rattle.texts.specs.Field.{field}
 use Rattle.fields.specs.Field.{digit}
 use Rattle.numbers.specs.Number.{number, numberAfter}
@@ -68,7 +69,7 @@ number-earlier (more {x} {y} {a} {b} dx dy p) n e = go (ltb x y) refl e (number-
   go true f g ih = number-less p (n * 10 + (x - byte "0")) (n * 10 + (y - byte "0")) (omega (arith, ltb-true x y f))
   go false f g ih = rw (eqb-true x y (and-left (eqb x y) (earlier a b) g)) (ih (and-right (eqb x y) (earlier a b) g))
 
--- ---- the number that all 14 digits of a time write
+-- ---- the number that all digits of a time write
 
 number-split : (k n : ℕ) (s : List ℕ) → numberAfter n s ≡ numberAfter (numberAfter n (take k s)) (drop k s)
 unfolding numberAfter
@@ -97,11 +98,11 @@ module _ (t : List ℕ) where
   unfolding number field
   number-year = number-split 4 0 t
 
-  number-end : (n : ℕ) → length t ≡ 14 → numberAfter n (drop 14 t) ≡ n
+  number-end : (n : ℕ) → length t ≡ timeLength → numberAfter n (drop timeLength t) ≡ n
   unfolding numberAfter
-  number-end n h = let k : length t ≤ 14 = omega arith in rw (drop-of-length-le t k)
+  number-end n h = let k : length t ≤ timeLength = omega arith in rw (drop-of-length-le t k)
 
-  number-stamp : length t ≡ 14 → number t ≡ stamp (year t) (month t) (day t) (hour t) (minute t) (second t)
+  number-stamp : length t ≡ timeLength → number t ≡ stamp (year t) (month t) (day t) (hour t) (minute t) (second t)
   number-stamp h =
       number-year
       ∙ number-two 4 _ (omega arith)
