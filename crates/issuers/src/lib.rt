@@ -8,7 +8,7 @@ ghost use lib.ListN.{length, take};
 ghost use Rattle.theory.specs.Parts.{chop};
 ghost use Rattle.theory.specs.Walk.{each};
 ghost use Rattle.sizes.specs.Sizes.{rowLength};
-ghost use Rattle.issuers.specs.Rows.{row, sentBy, beginning, panLength};
+ghost use Rattle.issuers.specs.Rows.{rowHolds, sentBy, rowBegins, lengthOfPan};
 ghost use Rattle.issuers.specs.Promises.{AreRows, IsKnown, IssuedTo};
 
 // What a PAN finds among the sender's rows: one whose BIN ID digits begin it (L3), and such a one that has its number
@@ -22,9 +22,9 @@ const BIN_FROM: usize = 1;
 
 const BIN_TO: usize = 14;
 
-const BIN_LENGTH_FROM: usize = 15;
+const BIN_ID_LENGTH_FROM: usize = 15;
 
-const BIN_LENGTH_TO: usize = 16;
+const BIN_ID_LENGTH_TO: usize = 16;
 
 const PAN_LENGTH_FROM: usize = 17;
 
@@ -35,11 +35,11 @@ const ACTOR_FROM: usize = 19;
 const ACTOR_TO: usize = 24;
 
 fn is_row(r: &[u8]) -> bool
-    ensures { λ t. ⌜ t ≡ row (now (r .entry)) ⌝ }
+    ensures { λ t. ⌜ t ≡ rowHolds (now (r .entry)) ⌝ }
 {
     let bin = texts::field(r, BIN_FROM, BIN_TO);
     let given = characters::digits_in(bin);
-    let bin_length = texts::field(r, BIN_LENGTH_FROM, BIN_LENGTH_TO);
+    let bin_length = texts::field(r, BIN_ID_LENGTH_FROM, BIN_ID_LENGTH_TO);
     let used = numbers::number(bin_length);
     let pan_length = texts::field(r, PAN_LENGTH_FROM, PAN_LENGTH_TO);
     let digits = numbers::number(pan_length);
@@ -57,7 +57,7 @@ fn is_row(r: &[u8]) -> bool
 
 fn each_row(b: &[u8], n: usize) -> bool
     requires { ⌜ n * rowLength ≤ length (now b) ⌝ }
-    ensures { λ r. ⌜ r ≡ each row (chop rowLength n (now (b .entry))) ⌝ }
+    ensures { λ r. ⌜ r ≡ each rowHolds (chop rowLength n (now (b .entry))) ⌝ }
 {
     let mut i: usize = 0;
     while i < n {
@@ -107,17 +107,17 @@ fn head<'a>(s: &'a [u8], n: u64) -> &'a [u8]
     &s[..end]
 }
 
-fn is_beginning(sender: &[u8], pan: &[u8], r: &[u8]) -> bool
-    ensures { λ t. ⌜ t ≡ beginning (now (sender .entry)) (now (pan .entry)) (now (r .entry)) ⌝ }
+fn row_begins(sender: &[u8], pan: &[u8], r: &[u8]) -> bool
+    ensures { λ t. ⌜ t ≡ rowBegins (now (sender .entry)) (now (pan .entry)) (now (r .entry)) ⌝ }
 {
-    let used = numbers::number(texts::field(r, BIN_LENGTH_FROM, BIN_LENGTH_TO));
+    let used = numbers::number(texts::field(r, BIN_ID_LENGTH_FROM, BIN_ID_LENGTH_TO));
     let bin = texts::field(r, BIN_FROM, BIN_TO);
     is_sent_by(sender, r) & texts::same(head(bin, used), head(pan, used))
 }
 
 // The row begins the PAN, of `digits` digits, and has this number of digits.
-fn is_fitting(r: &[u8], begins: bool, digits: usize) -> bool
-    ensures { λ t. ⌜ t ≡ begins && eqb (panLength (now (r .entry))) digits ⌝ }
+fn row_fits(r: &[u8], begins: bool, digits: usize) -> bool
+    ensures { λ t. ⌜ t ≡ begins && eqb (lengthOfPan (now (r .entry))) digits ⌝ }
 {
     begins & (numbers::number(texts::field(r, PAN_LENGTH_FROM, PAN_LENGTH_TO)) == digits as u64)
 }
@@ -132,9 +132,9 @@ pub fn issued_to(b: &[u8], sender: &[u8], pan: &[u8]) -> Issued
     let mut i: usize = 0;
     while i < n {
         let r = texts::part(b, sizes::ROW, i);
-        let t = is_beginning(sender, pan, r);
+        let t = row_begins(sender, pan, r);
         begins = begins | t;
-        fits = fits | is_fitting(r, t, digits);
+        fits = fits | row_fits(r, t, digits);
         i += 1;
     }
     Issued { begins, fits }

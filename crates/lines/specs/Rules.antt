@@ -10,7 +10,7 @@ use Rattle.fields.specs.Field.{digit, blank}
 use Rattle.characters.specs.Characters.{hex}
 use Rattle.pans.specs.Pan.{pan, luhn}
 use Rattle.plates.specs.Plate.{plate, nationality}
-use Rattle.issuers.specs.Rows.{begun, fitted}
+use Rattle.issuers.specs.Rows.{someRowBegins, someRowFits}
 use Rattle.columns.specs.Columns.{actor, panOf, plateOf, nationalityOf, contextMark, obeId}
 use Rattle.vehicles.specs.Vehicle.{vehicleHolds, weightHolds}
 
@@ -24,11 +24,11 @@ L2 sender l = eqs (actor l) sender
 
 -- a row of the sender whose BIN ID digits begin the PAN
 unfoldable pub L3 : List ℕ → List ℕ → List ℕ → Bool
-L3 rows sender l = begun rows sender (panOf l)
+L3 rows sender l = someRowBegins rows sender (panOf l)
 
 -- such a row has this number of digits
 unfoldable pub L4 : List ℕ → List ℕ → List ℕ → Bool
-L4 rows sender l = fitted rows sender (panOf l)
+L4 rows sender l = someRowFits rows sender (panOf l)
 
 -- Luhn sum, check digit last, a multiple of ten
 unfoldable pub L5 : List ℕ → Bool

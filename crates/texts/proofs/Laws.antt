@@ -1,13 +1,13 @@
 -- Laws of the definitions of specs/, in the form that the functions use. Assumes nothing.
 use mathlib.Core.Path.{_≡_, sym, _∙_}
-use mathlib.Core.Bool.{Bool, true, false, _||_}
+use mathlib.Core.Bool.{Bool, true, false}
 use mathlib.Core.List.{List}
 use Prim.Native.Nat.{ℕ, _<_, _≤_, _+_, _-_, _/_}
 use native.Mathlib.Omega.{arith}
 use lib.ListN.{length, take, drop, length-drop, drop-of-length-le}
 use lib.Seq.{take-all, take-nil}
 use Rattle.theory.specs.Same.{eqs, mem}
-use Rattle.theory.specs.Parts.{chop, partAt}
+use Rattle.theory.specs.Parts.{partAt}
 use Rattle.theory.specs.laws.Parts.{partsFrom, parts-start, parts-step, parts-end}
 use Rattle.texts.specs.Field.{field, listed}
 

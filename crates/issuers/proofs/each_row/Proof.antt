@@ -7,12 +7,12 @@ use borrow.Author.Tests.{not-true, not-false}
 use Rattle.theory.specs.laws.Parts.{part-fits}
 use Rattle.theory.specs.laws.Walk.{EachFrom, each-start, each-on, each-off, each-end}
 use Rattle.sizes.specs.Sizes.{rowLength}
-use Rattle.issuers.specs.Rows.{row}
+use Rattle.issuers.specs.Rows.{rowHolds}
 use Rattle.issuers.proofs.each_row.Statement.{statement}
 use Rattle.issuers.proofs.each_row.Tie as tie
 
 abbrev Inv-loop : tie.InvT-loop
-Inv-loop b n i₀ i = (i ≤ n) × EachFrom row rowLength n b i
+Inv-loop b n i₀ i = (i ≤ n) × EachFrom rowHolds rowLength n b i
 
 abbrev μ-loop : tie.MeasureT-loop
 μ-loop b n i₀ i = n - i

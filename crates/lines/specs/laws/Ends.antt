@@ -30,7 +30,7 @@ zeros-number (x ∷ s) h =
     rw e (zeros-number s (and-right (zeroDigit x) (all zeroDigit s) h))
 
 -- zeros are no real time, since there is no year 0000
-pub real-zeros : (v : List ℕ) → realTime v ≡ true → run zeroDigit timeLength v ≡ false
+real-zeros : (v : List ℕ) → realTime v ≡ true → run zeroDigit timeLength v ≡ false
 unfolding number field
 real-zeros v h = go (run zeroDigit timeLength v) refl
   where

@@ -25,7 +25,7 @@ use Rattle.lines.specs.Rules.{L1, L2, L3, L4, L5, L6, L7, L8, L9, L10, s
 use Rattle.lines.specs.Faultless.{Faultless}
 
 -- two capitals are no blanks
-pub stateful : (l : List ℕ) → L7 l ≡ true → stateless l ≡ false
+stateful : (l : List ℕ) → L7 l ≡ true → stateless l ≡ false
 unfolding L7 nationality stateless field
 stateful l h = go (run blank 3 (nationalityOf l)) refl
   where

@@ -25,7 +25,7 @@ digit-is : (v : ℕ) → digit (byte "0" + v % 10) ≡ true
 digit-is v = and-both (leb (byte "0") (byte "0" + v % 10)) (leb (byte "0" + v % 10) (byte "9")) (le-leb (byte "0") (byte "0" + v % 10) (omega arith)) (le-leb (byte "0" + v % 10) (byte "9") (omega arith))
 
 -- and each is one
-pub decimal-all : (k v : ℕ) → all digit (decimal k v) ≡ true
+decimal-all : (k v : ℕ) → all digit (decimal k v) ≡ true
 unfolding decimal all
 decimal-all zero v = refl
 decimal-all (suc k) v = all-append digit (decimal k (v / 10)) ((byte "0" + v % 10) ∷ []) ∙ rw (decimal-all k (v / 10), digit-is v)

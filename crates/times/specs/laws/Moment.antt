@@ -33,7 +33,7 @@ month-is y m = go (between 1 12 m) refl (cond (eqb m 2) (cond (leap y) 29 28) (c
   go true e n h = within 1 12 m e
   go false e n h = absurd (omega arith)
 
-pub moment : (y m d h i s : ℕ) → realMoment y m d h i s ≡ true → Moment y m d h i s
+moment : (y m d h i s : ℕ) → realMoment y m d h i s ≡ true → Moment y m d h i s
 moment y m d h i s e =
     let day-true : realDay y m d ≡ true = and-left (realDay y m d) (realClock h i s) e in
     let clock-true : realClock h i s ≡ true = and-right (realDay y m d) (realClock h i s) e in

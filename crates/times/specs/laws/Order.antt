@@ -25,7 +25,7 @@ unfoldable pub seconds : List ℕ → ℕ
 seconds t = secs (year t) (month t) (day t) (hour t) (minute t) (second t)
 
 -- two texts of which neither is earlier are one
-pub neither : (a b : List ℕ) → earlier a b ≡ false → earlier b a ≡ false → a ≡ b
+neither : (a b : List ℕ) → earlier a b ≡ false → earlier b a ≡ false → a ≡ b
 unfolding earlier
 neither [] [] h k = refl
 neither [] (y ∷ b) h k = absurd (true≢false h)
