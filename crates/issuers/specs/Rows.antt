@@ -61,11 +61,11 @@ rowFits sender pan r = rowBegins sender pan r && eqb (lengthOfPan r) (leading di
 unfoldable pub known : List ℕ → List ℕ → Bool
 known b sender = some (sentBy sender) (rowsOf b)
 
--- L3 holds: some row does
+-- L3 holds: there is a row of the sender whose BIN ID digits begin the PAN
 unfoldable pub someRowBegins : List ℕ → List ℕ → List ℕ → Bool
 someRowBegins b sender pan = some (rowBegins sender pan) (rowsOf b)
 
--- L4 holds: some row does
+-- L4 holds: there is such a row that has this number of digits
 unfoldable pub someRowFits : List ℕ → List ℕ → List ℕ → Bool
 someRowFits b sender pan = some (rowFits sender pan) (rowsOf b)
 

@@ -48,7 +48,7 @@ fieldsHold l =
     run blank 6 (shadow l) && tariffHolds l && classHolds l && productHolds l && engineHolds l
     && run digit 2 (co2 l) && run digit 4 (weight l) && validToHolds l && separatorHolds l && run zeroDigit 11 (filler l)
 
--- what L10 asks of each field by itself, a weight of four digits among them
+-- what L10 asks of the fields, a weight of four digits among them
 unfoldable pub vehicleHolds : List ℕ → Bool
 vehicleHolds l = emissionHolds l && fieldsHold l
 

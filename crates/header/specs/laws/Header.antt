@@ -17,7 +17,7 @@ use Rattle.header.specs.Header.{sender, receiver, listSequence, previous
 
 pub header-sender : (h : List ℕ) → headerHolds h ≡ true → run digit 6 (sender h) ≡ true
 unfolding headerHolds joined
-header-sender h e = second (joined-each (eqs (field 1 1 h) (bytes "0")) (run digit 6 (sender h) ∷ behind) e)
+header-sender h e = sender-holds (joined-each (eqs (field 1 1 h) (bytes "0")) (run digit 6 (sender h) ∷ behind) e)
   where
     behind : List Bool
     behind =
@@ -25,5 +25,5 @@ header-sender h e = second (joined-each (eqs (field 1 1 h) (bytes "0")) (run dig
         ∷ run digit 15 (count h) ∷ realTime (creation h) ∷ run zeroDigit 27 (field 101 127 h)
         ∷ eqs (field headerLength headerLength h) lineEnd ∷ []
 
-    second : {a b : Bool} {cs : List Bool} → Each (λ c. c ≡ true) (a ∷ b ∷ cs) → b ≡ true
-    second (more x (more y zs)) = y
+    sender-holds : {a b : Bool} {cs : List Bool} → Each (λ c. c ≡ true) (a ∷ b ∷ cs) → b ≡ true
+    sender-holds (more x (more y zs)) = y
