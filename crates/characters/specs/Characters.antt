@@ -4,12 +4,13 @@ use mathlib.Core.Bool.{Bool, _&&_, _||_}
 use mathlib.Core.List.{List}
 use lib.Dec.{leb, ltb}
 use lib.ListN.{length, drop}
+use Rattle.theory.specs.Text.{byte}
 use Rattle.theory.specs.Every.{all, leading}
-use Rattle.fields.specs.Field.{between, blank}
+use Rattle.fields.specs.Field.{between, digit, blank}
 
 -- 0 to 9, A to F
 abbrev pub hex : ℕ → Bool
-hex b = between 48 57 b || between 65 70 b
+hex b = digit b || between (byte "A") (byte "F") b
 
 -- at least one character, k in all, then blanks
 unfoldable pub filledTo : ℕ → List ℕ → Bool

@@ -9,7 +9,7 @@ ghost use Rattle.characters.specs.Promises.{IsHex, DigitsIn, IsFilled};
 fn is_digit(b: u8) -> bool
     ensures { λ r. ⌜ r ≡ digit b ⌝ }
 {
-    (48 <= b) & (b <= 57)
+    (b'0' <= b) & (b <= b'9')
 }
 
 fn is_hex_digit(b: u8) -> bool
@@ -18,7 +18,7 @@ fn is_hex_digit(b: u8) -> bool
     if is_digit(b) {
         return true;
     }
-    (65 <= b) & (b <= 70)
+    (b'A' <= b) & (b <= b'F')
 }
 
 fn all_hex(s: &[u8]) -> bool

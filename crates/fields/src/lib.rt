@@ -34,13 +34,13 @@ fn is_run(f: &[u8], n: usize, lo: u8, hi: u8) -> bool
 pub fn is_digits(f: &[u8], n: usize) -> bool
     ensures { λ r. ⌜ IsDigits (now (f .entry)) n r ⌝ }
 {
-    is_run(f, n, 48, 57)
+    is_run(f, n, b'0', b'9')
 }
 
 pub fn is_zeros(f: &[u8], n: usize) -> bool
     ensures { λ r. ⌜ IsZeros (now (f .entry)) n r ⌝ }
 {
-    is_run(f, n, 48, 48)
+    is_run(f, n, b'0', b'0')
 }
 
 pub fn is_zero_bytes(f: &[u8], n: usize) -> bool
@@ -52,11 +52,11 @@ pub fn is_zero_bytes(f: &[u8], n: usize) -> bool
 pub fn is_blanks(f: &[u8], n: usize) -> bool
     ensures { λ r. ⌜ IsBlanks (now (f .entry)) n r ⌝ }
 {
-    is_run(f, n, 32, 32)
+    is_run(f, n, b' ', b' ')
 }
 
 pub fn is_capitals(f: &[u8], n: usize) -> bool
     ensures { λ r. ⌜ IsCapitals (now (f .entry)) n r ⌝ }
 {
-    is_run(f, n, 65, 90)
+    is_run(f, n, b'A', b'Z')
 }

@@ -8,14 +8,14 @@ use Rattle.theory.specs.Text.{bytes}
 use Rattle.theory.specs.Same.{eqs}
 use Rattle.theory.specs.Every.{all, run}
 use Rattle.theory.specs.Walk.{each}
+use Rattle.sizes.specs.Sizes.{footerLength}
 use Rattle.texts.specs.Field.{field, lineEnd}
 use Rattle.fields.specs.Field.{zeroDigit, plain}
-use Rattle.sizes.specs.Sizes.{footerLength}
 use Rattle.hgv.specs.Layout.{widthOf, linesOf, footer}
 
 -- `2`, 62 zeros, LF
 unfoldable pub footerForm : List ℕ → Bool
-footerForm f = eqb (length f) footerLength && eqs (field 1 1 f) (bytes "2") && run zeroDigit 62 (field 2 63 f) && eqs (field 64 64 f) lineEnd
+footerForm f = eqb (length f) footerLength && eqs (field 1 1 f) (bytes "2") && run zeroDigit 62 (field 2 63 f) && eqs (field footerLength footerLength f) lineEnd
 
 -- stop 31 is given where this does not hold
 unfoldable pub footerHolds : List ℕ → Bool

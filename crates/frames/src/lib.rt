@@ -18,7 +18,7 @@ const FOOTER_ZEROS_FROM: usize = 2;
 
 const FOOTER_ZEROS_TO: usize = 63;
 
-const FOOTER_END: usize = 64;
+const FOOTER_END: usize = sizes::FOOTER;
 
 // The least byte of a line's text.
 const PLAIN: u8 = 32;

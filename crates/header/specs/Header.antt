@@ -5,6 +5,7 @@ use mathlib.Core.List.{List}
 use Rattle.theory.specs.Text.{bytes}
 use Rattle.theory.specs.Same.{eqs}
 use Rattle.theory.specs.Every.{run}
+use Rattle.sizes.specs.Sizes.{headerLength}
 use Rattle.texts.specs.Field.{field, lineEnd}
 use Rattle.fields.specs.Field.{digit, zeroDigit}
 use Rattle.times.specs.Time.{realTime}
@@ -51,4 +52,4 @@ headerHolds h =
     && sequence (sender h) (listSequence h)
     && previousHolds h
     && run zeroDigit 14 (field 52 65 h) && run digit 15 (count h) && realTime (creation h)
-    && run zeroDigit 27 (field 101 127 h) && eqs (field 128 128 h) lineEnd
+    && run zeroDigit 27 (field 101 127 h) && eqs (field headerLength headerLength h) lineEnd

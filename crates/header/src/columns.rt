@@ -37,4 +37,4 @@ pub const FILLER_FROM: usize = 101;
 
 pub const FILLER_TO: usize = 127;
 
-pub const HEADER_END: usize = 128;
+pub const HEADER_END: usize = sizes::HEADER;

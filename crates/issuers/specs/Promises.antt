@@ -4,10 +4,10 @@ use mathlib.Core.Bool.{Bool}
 use mathlib.Core.List.{List}
 use Prim.Native.Nat.{ℕ}
 use Rattle.issuers.specs.declared.Issued.{Issued}
-use Rattle.issuers.specs.Rows.{rows, known, issuedOf}
+use Rattle.issuers.specs.Rows.{rowsHold, known, issuedOf}
 
 abbrev pub AreRows : List ℕ → Bool → Type 0
-AreRows b r = r ≡ rows b
+AreRows b r = r ≡ rowsHold b
 
 abbrev pub IsKnown : List ℕ → List ℕ → Bool → Type 0
 IsKnown b sender r = r ≡ known b sender

@@ -7,7 +7,8 @@ ghost use Prim.Native.Nat.{_*_, _≤_};
 ghost use lib.ListN.{length, take};
 ghost use Rattle.theory.specs.Parts.{chop};
 ghost use Rattle.theory.specs.Walk.{each};
-ghost use Rattle.issuers.specs.Rows.{row, sentBy, beginning, panLength};
+ghost use Rattle.sizes.specs.Sizes.{rowLength};
+ghost use Rattle.issuers.specs.Rows.{rowHolds, sentBy, rowBegins, lengthOfPan};
 ghost use Rattle.issuers.specs.Promises.{AreRows, IsKnown, IssuedTo};
 
 // What a PAN finds among the sender's rows: one whose BIN ID digits begin it (L3), and such a one that has its number
@@ -17,17 +18,13 @@ pub struct Issued {
     pub fits: bool,
 }
 
-const ROW: usize = 24;
-
-const ROWS: usize = 64;
-
 const BIN_FROM: usize = 1;
 
 const BIN_TO: usize = 14;
 
-const BIN_LENGTH_FROM: usize = 15;
+const BIN_ID_LENGTH_FROM: usize = 15;
 
-const BIN_LENGTH_TO: usize = 16;
+const BIN_ID_LENGTH_TO: usize = 16;
 
 const PAN_LENGTH_FROM: usize = 17;
 
@@ -38,11 +35,11 @@ const ACTOR_FROM: usize = 19;
 const ACTOR_TO: usize = 24;
 
 fn is_row(r: &[u8]) -> bool
-    ensures { λ t. ⌜ t ≡ row (now (r .entry)) ⌝ }
+    ensures { λ t. ⌜ t ≡ rowHolds (now (r .entry)) ⌝ }
 {
     let bin = texts::field(r, BIN_FROM, BIN_TO);
     let given = characters::digits_in(bin);
-    let bin_length = texts::field(r, BIN_LENGTH_FROM, BIN_LENGTH_TO);
+    let bin_length = texts::field(r, BIN_ID_LENGTH_FROM, BIN_ID_LENGTH_TO);
     let used = numbers::number(bin_length);
     let pan_length = texts::field(r, PAN_LENGTH_FROM, PAN_LENGTH_TO);
     let digits = numbers::number(pan_length);
@@ -59,12 +56,12 @@ fn is_row(r: &[u8]) -> bool
 }
 
 fn each_row(b: &[u8], n: usize) -> bool
-    requires { ⌜ n * 24 ≤ length (now b) ⌝ }
-    ensures { λ r. ⌜ r ≡ each row (chop 24 n (now (b .entry))) ⌝ }
+    requires { ⌜ n * rowLength ≤ length (now b) ⌝ }
+    ensures { λ r. ⌜ r ≡ each rowHolds (chop rowLength n (now (b .entry))) ⌝ }
 {
     let mut i: usize = 0;
     while i < n {
-        if !is_row(texts::part(b, ROW, i)) {
+        if !is_row(texts::part(b, sizes::ROW, i)) {
             return false;
         }
         i += 1;
@@ -75,8 +72,8 @@ fn each_row(b: &[u8], n: usize) -> bool
 pub fn are_rows(b: &[u8]) -> bool
     ensures { λ r. ⌜ AreRows (now (b .entry)) r ⌝ }
 {
-    let n = b.len() / ROW;
-    (b.len() % ROW == 0) & (n <= ROWS) & each_row(b, n)
+    let n = b.len() / sizes::ROW;
+    (b.len() % sizes::ROW == 0) & (n <= sizes::ROWS_MOST) & each_row(b, n)
 }
 
 fn is_sent_by(sender: &[u8], r: &[u8]) -> bool
@@ -89,11 +86,11 @@ fn is_sent_by(sender: &[u8], r: &[u8]) -> bool
 pub fn is_known(b: &[u8], sender: &[u8]) -> bool
     ensures { λ r. ⌜ IsKnown (now (b .entry)) (now (sender .entry)) r ⌝ }
 {
-    let n = b.len() / ROW;
+    let n = b.len() / sizes::ROW;
     let mut found = false;
     let mut i: usize = 0;
     while i < n {
-        found = found | is_sent_by(sender, texts::part(b, ROW, i));
+        found = found | is_sent_by(sender, texts::part(b, sizes::ROW, i));
         i += 1;
     }
     found
@@ -110,17 +107,17 @@ fn head<'a>(s: &'a [u8], n: u64) -> &'a [u8]
     &s[..end]
 }
 
-fn is_beginning(sender: &[u8], pan: &[u8], r: &[u8]) -> bool
-    ensures { λ t. ⌜ t ≡ beginning (now (sender .entry)) (now (pan .entry)) (now (r .entry)) ⌝ }
+fn row_begins(sender: &[u8], pan: &[u8], r: &[u8]) -> bool
+    ensures { λ t. ⌜ t ≡ rowBegins (now (sender .entry)) (now (pan .entry)) (now (r .entry)) ⌝ }
 {
-    let used = numbers::number(texts::field(r, BIN_LENGTH_FROM, BIN_LENGTH_TO));
+    let used = numbers::number(texts::field(r, BIN_ID_LENGTH_FROM, BIN_ID_LENGTH_TO));
     let bin = texts::field(r, BIN_FROM, BIN_TO);
     is_sent_by(sender, r) & texts::same(head(bin, used), head(pan, used))
 }
 
 // The row begins the PAN, of `digits` digits, and has this number of digits.
-fn is_fitting(r: &[u8], begins: bool, digits: usize) -> bool
-    ensures { λ t. ⌜ t ≡ begins && eqb (panLength (now (r .entry))) digits ⌝ }
+fn row_fits(r: &[u8], begins: bool, digits: usize) -> bool
+    ensures { λ t. ⌜ t ≡ begins && eqb (lengthOfPan (now (r .entry))) digits ⌝ }
 {
     begins & (numbers::number(texts::field(r, PAN_LENGTH_FROM, PAN_LENGTH_TO)) == digits as u64)
 }
@@ -128,16 +125,16 @@ fn is_fitting(r: &[u8], begins: bool, digits: usize) -> bool
 pub fn issued_to(b: &[u8], sender: &[u8], pan: &[u8]) -> Issued
     ensures { λ r. ⌜ IssuedTo (now (b .entry)) (now (sender .entry)) (now (pan .entry)) r ⌝ }
 {
-    let n = b.len() / ROW;
+    let n = b.len() / sizes::ROW;
     let digits = characters::digits_in(pan);
     let mut begins = false;
     let mut fits = false;
     let mut i: usize = 0;
     while i < n {
-        let r = texts::part(b, ROW, i);
-        let t = is_beginning(sender, pan, r);
+        let r = texts::part(b, sizes::ROW, i);
+        let t = row_begins(sender, pan, r);
         begins = begins | t;
-        fits = fits | is_fitting(r, t, digits);
+        fits = fits | row_fits(r, t, digits);
         i += 1;
     }
     Issued { begins, fits }

@@ -2,8 +2,7 @@
 use mathlib.Core.Path.{_≡_, ap}
 use mathlib.Core.List.{List}
 use Prim.Native.Nat.{ℕ}
-use Rattle.texts.specs.Field.{field}
-use Rattle.issuers.specs.Rows.{begun, fitted, issuedOf}
+use Rattle.issuers.specs.Rows.{issuedOf}
 use Rattle.issuers.specs.declared.Issued.{Issued}
 use Rattle.columns.specs.Columns.{panOf}
 use Rattle.lines.specs.Rules.{L3, L4}

@@ -10,9 +10,9 @@ use Rattle.fields.specs.Field.{digit, blank}
 use Rattle.characters.specs.Characters.{hex}
 use Rattle.pans.specs.Pan.{pan, luhn}
 use Rattle.plates.specs.Plate.{plate, nationality}
-use Rattle.issuers.specs.Rows.{begun, fitted}
+use Rattle.issuers.specs.Rows.{someRowBegins, someRowFits}
 use Rattle.columns.specs.Columns.{actor, panOf, plateOf, nationalityOf, contextMark, obeId}
-use Rattle.vehicles.specs.Vehicle.{L10}
+use Rattle.vehicles.specs.Vehicle.{vehicleHolds, weightHolds}
 
 -- PAN: 1-19 digits then blanks
 unfoldable pub L1 : List ℕ → Bool
@@ -24,11 +24,11 @@ L2 sender l = eqs (actor l) sender
 
 -- a row of the sender whose BIN ID digits begin the PAN
 unfoldable pub L3 : List ℕ → List ℕ → List ℕ → Bool
-L3 rows sender l = begun rows sender (panOf l)
+L3 rows sender l = someRowBegins rows sender (panOf l)
 
 -- such a row has this number of digits
 unfoldable pub L4 : List ℕ → List ℕ → List ℕ → Bool
-L4 rows sender l = fitted rows sender (panOf l)
+L4 rows sender l = someRowFits rows sender (panOf l)
 
 -- Luhn sum, check digit last, a multiple of ten
 unfoldable pub L5 : List ℕ → Bool
@@ -53,6 +53,10 @@ L8 l = run hex 12 (contextMark l)
 unfoldable pub L9 : List ℕ → Bool
 L9 l = run hex 18 (obeId l)
 
+-- what the line says of the vehicle, field by field, and the weight's limit
+unfoldable pub L10 : List ℕ → Bool
+L10 l = vehicleHolds l && weightHolds l
+
 -- ---- a line, and a record
 
 -- L1 to L10 in their order, each with its reason
@@ -75,6 +79,6 @@ lineRules rows sender l =
 unfoldable pub lineFault : List ℕ → List ℕ → List ℕ → ℕ
 lineFault rows sender l = first (lineRules rows sender l)
 
--- six-digit actor, and L1, L5 to L10 hold
+-- six-digit actor, and L1, L5 to L10 hold, L10 by its two parts
 unfoldable pub recordHolds : List ℕ → Bool
-recordHolds l = run digit 6 (actor l) && L1 l && L5 l && L6 l && L7 l && L8 l && L9 l && L10 l
+recordHolds l = run digit 6 (actor l) && L1 l && L5 l && L6 l && L7 l && L8 l && L9 l && vehicleHolds l && weightHolds l

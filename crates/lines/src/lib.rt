@@ -1,7 +1,7 @@
 // The rules of a line (L1 to L10) and of a record. A line comes as a part of the lent body, or of the register; one of
 // any length is judged.
 ghost use mathlib.Core.Path.{_≡_};
-ghost use Rattle.lines.specs.Rules.{stateless, L1, L2, L5, L6, L7, L8, L9};
+ghost use Rattle.lines.specs.Rules.{stateless, L1, L2, L5, L6, L7, L8, L9, L10};
 ghost use Rattle.lines.specs.Promises.{LineFault, IsRecord};
 
 fn holds_l6(l: &[u8]) -> bool
@@ -32,6 +32,12 @@ fn holds_l9(l: &[u8]) -> bool
         texts::field(l, columns::OBE_ID_FROM, columns::OBE_ID_TO),
         18,
     )
+}
+
+fn holds_l10(l: &[u8]) -> bool
+    ensures { λ r. ⌜ r ≡ L10 (now (l .entry)) ⌝ }
+{
+    vehicles::holds_vehicle(l) & vehicles::holds_weight(l)
 }
 
 fn holds_l1(l: &[u8]) -> bool
@@ -76,7 +82,7 @@ pub fn line_fault(l: &[u8], sender: &[u8], rows: &[u8]) -> u64
     );
     let begins = issued.begins;
     let fits = issued.fits;
-    let v10 = rules::first(!vehicles::holds_l10(l), 12, 0);
+    let v10 = rules::first(!holds_l10(l), 12, 0);
     let v9 = rules::first(!holds_l9(l), 5, v10);
     let v8 = rules::first(!holds_l8(l), 8, v9);
     let v7 = rules::first(!holds_l7(l), 9, v8);
@@ -89,7 +95,7 @@ pub fn line_fault(l: &[u8], sender: &[u8], rows: &[u8]) -> u64
     rules::first(!holds_l1(l), 3, v2)
 }
 
-// Six-digit actor, and L1, L5 to L10 hold.
+// Six-digit actor, and L1, L5 to L10 hold, L10 by its two parts.
 pub fn is_record(l: &[u8]) -> bool
     ensures { λ r. ⌜ IsRecord (now (l .entry)) r ⌝ }
 {
@@ -100,5 +106,6 @@ pub fn is_record(l: &[u8]) -> bool
         & holds_l7(l)
         & holds_l8(l)
         & holds_l9(l)
-        & vehicles::holds_l10(l)
+        & vehicles::holds_vehicle(l)
+        & vehicles::holds_weight(l)
 }

@@ -1,12 +1,13 @@
 -- Laws of the definitions of specs/, in the form that the loops use. Assumes nothing.
 use mathlib.Core.Path.{_≡_, refl, sym, ap, _∙_}
-use mathlib.Core.List.{List, [], _∷_, _++_, append-nil}
+use mathlib.Core.List.{List, _++_, append-nil}
 use Prim.Native.Nat.{ℕ, suc, _<_, _≤_, _+_, _-_, _*_, _/_, _%_, _^_}
 use native.Mathlib.Nat.{pow-suc, pow-le-pow-right}
 use native.Mathlib.Numerals.{add-one}
 use native.Mathlib.Omega.{arith}
 use lib.ListN.{length, take, drop, getD, set, length-set, length-take, length-drop, drop-of-length-le}
 use lib.Seq.{drop-cons, drop-set-lt, drop-length, getD-set-same, append-snoc}
+use Rattle.theory.specs.Text.{byte}
 use Rattle.writing.specs.Put.{putField}
 use Rattle.writing.specs.laws.Put.{put-lent}
 use Rattle.numbers.specs.Number.{number, numberAfter, decimal}
@@ -30,7 +31,7 @@ number-room f n i v h k =
     let t : 10 ^ i ≤ 10 ^ 14 = pow-le-pow-right (omega arith) l in
     omega (arith, v .small)
 
-pub number-turn : (f : List ℕ) (n i v : ℕ) → Numbering f n i → i < length f → (v ≡ getD f i 0 - 48) × (v ≤ 207) → Numbering f (n * 10 + v) (i + 1)
+pub number-turn : (f : List ℕ) (n i v : ℕ) → Numbering f n i → i < length f → (v ≡ getD f i 0 - byte "0") × (v ≤ 207) → Numbering f (n * 10 + v) (i + 1)
 unfolding numberAfter
 number-turn f n i v w h k =
     record {
@@ -56,14 +57,14 @@ writing-start v to =
     record { within = omega arith; size = refl; whole = sym (rw (drop-length to) (append-nil (decimal (length to) v))) }
 
 -- one digit, at the place j
-digit-step : (to : List ℕ) (j m : ℕ) → j < length to → decimal (suc j) m ++ drop (suc j) to ≡ decimal j (m / 10) ++ drop j (set to j (48 + m % 10))
+digit-step : (to : List ℕ) (j m : ℕ) → j < length to → decimal (suc j) m ++ drop (suc j) to ≡ decimal j (m / 10) ++ drop j (set to j (byte "0" + m % 10))
 unfolding decimal
 digit-step to j m h =
-    let d : ℕ = 48 + m % 10 in
+    let d : ℕ = byte "0" + m % 10 in
     let l : j < length (set to j d) = rw length-set h in
     append-snoc (decimal j (m / 10)) d (drop (suc j) to) ∙ rw (drop-cons (set to j d) j 0, getD-set-same to j d, drop-set-lt (suc j) to j d (omega arith))
 
-pub writing-turn : (v n : ℕ) (to : List ℕ) (i m : ℕ) → Writing v n to i m → 0 < i → Writing v n (set to (i - 1) (48 + m % 10)) (i - 1) (m / 10)
+pub writing-turn : (v n : ℕ) (to : List ℕ) (i m : ℕ) → Writing v n to i m → 0 < i → Writing v n (set to (i - 1) (byte "0" + m % 10)) (i - 1) (m / 10)
 writing-turn v n to i m w h =
     let e : i ≡ suc (i - 1) = omega arith in
     let l : i - 1 < length to = omega (arith, w .within, w .size) in

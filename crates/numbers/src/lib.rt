@@ -2,17 +2,18 @@
 ghost use mathlib.Core.Path.{_≡_};
 ghost use Prim.Native.Nat.{_+_, _-_, _≤_};
 ghost use lib.ListN.{length};
+ghost use Rattle.theory.specs.Text.{byte};
 ghost use Rattle.numbers.specs.Number.{decimal};
 ghost use Rattle.numbers.specs.Promises.{Number, PutNumber};
 
 // What a byte counts as a digit: 0 below '0'.
 fn value(b: u8) -> u64
-    ensures { λ r. ⌜ (r ≡ b - 48) × (r ≤ 207) ⌝ }
+    ensures { λ r. ⌜ (r ≡ b - byte "0") × (r ≤ 207) ⌝ }
 {
-    if b < 48 {
+    if b < b'0' {
         return 0;
     }
-    (b - 48) as u64
+    (b - b'0') as u64
 }
 
 // The number that digits write. The longest number in the files, a count, has 15.
@@ -37,7 +38,7 @@ fn put_digits(to: &mut [u8], v: u64)
     let mut left = v;
     while 0 < i {
         i -= 1;
-        to[i] = 48 + (left % 10) as u8;
+        to[i] = b'0' + (left % 10) as u8;
         left = left / 10;
     }
 }

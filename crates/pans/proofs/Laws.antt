@@ -1,39 +1,40 @@
 -- Laws of the Luhn sum, in the form that its loop uses. Assumes nothing.
-use mathlib.Core.Path.{_≡_, refl, sym, ap, _∙_}
-use mathlib.Core.Bool.{Bool, true, false, cond, _&&_}
+use mathlib.Core.Path.{_≡_, refl, _∙_}
+use mathlib.Core.Bool.{true}
 use mathlib.Core.List.{List}
-use Prim.Native.Nat.{ℕ, suc, _<_, _≤_, _+_, _-_, _*_, _/_, _%_}
+use Prim.Native.Nat.{ℕ, suc, _<_, _≤_, _+_, _-_, _%_}
 use native.Mathlib.Nat.{zero-add}
 use native.Mathlib.Numerals.{add-one}
 use native.Mathlib.Omega.{arith}
-use lib.Dec.{leb, eqb}
-use lib.ListN.{length, take, drop, getD, length-drop, drop-of-length-le}
+use lib.Dec.{leb}
+use lib.ListN.{length, drop, getD, length-drop, drop-of-length-le}
 use lib.Seq.{drop-cons}
 use borrow.Author.Tests.{leb-true, eq-eqb, ne-eqb}
+use Rattle.theory.specs.Text.{byte}
 use Rattle.theory.specs.laws.Truth.{and-left, and-right}
 use Rattle.theory.specs.Every.{all}
 use Rattle.theory.specs.laws.Every.{all-at}
 use Rattle.fields.specs.Field.{digit}
-use Rattle.pans.specs.Pan.{doubled, counted, luhnSum}
+use Rattle.pans.specs.Pan.{doubled, addend, luhnSum}
 
 -- a digit's byte lies between '0' and '9'
-pub digits-at : (s : List ℕ) (i : ℕ) → all digit s ≡ true → i < length s → (48 ≤ getD s i 0) × (getD s i 0 ≤ 57)
+pub digits-at : (s : List ℕ) (i : ℕ) → all digit s ≡ true → i < length s → (byte "0" ≤ getD s i 0) × (getD s i 0 ≤ byte "9")
 digits-at s i h l =
     let b : ℕ = getD s i 0 in
     let e : digit b ≡ true = all-at digit s i h l in
-    (leb-true 48 b (and-left (leb 48 b) (leb b 57) e), leb-true b 57 (and-right (leb 48 b) (leb b 57) e))
+    (leb-true (byte "0") b (and-left (leb (byte "0") b) (leb b (byte "9")) e), leb-true b (byte "9") (and-right (leb (byte "0") b) (leb b (byte "9")) e))
 
 pub doubled-small : (d : ℕ) → d < 10 → doubled d < 10
 unfolding doubled
 doubled-small d h = omega arith
 
-pub counted-doubled : (d k : ℕ) → k % 2 ≡ 1 → counted d k ≡ doubled d
-unfolding counted
-counted-doubled d k h = rw (eq-eqb (k % 2) 1 h)
+pub addend-doubled : (d k : ℕ) → k % 2 ≡ 1 → addend d k ≡ doubled d
+unfolding addend
+addend-doubled d k h = rw (eq-eqb (k % 2) 1 h)
 
-pub counted-plain : (d k : ℕ) → (k % 2 ≡ 1 → ⊥) → counted d k ≡ d
-unfolding counted
-counted-plain d k h = rw (ne-eqb (k % 2) 1 h)
+pub addend-plain : (d k : ℕ) → (k % 2 ≡ 1 → ⊥) → addend d k ≡ d
+unfolding addend
+addend-plain d k h = rw (ne-eqb (k % 2) 1 h)
 
 -- the last digit of the whole sum is that of what is kept and what is left
 pub record Summing (s : List ℕ) (sum i : ℕ) : Type 0 where
@@ -44,7 +45,7 @@ pub record Summing (s : List ℕ) (sum i : ℕ) : Type 0 where
 pub sum-start : (s : List ℕ) → Summing s 0 0
 sum-start s = record { within = omega arith; last = omega arith; whole = rw zero-add refl }
 
-pub sum-turn : (s : List ℕ) (sum i c : ℕ) → Summing s sum i → i < length s → c ≡ counted (getD s i 0 - 48) (length s - 1 - i)
+pub sum-turn : (s : List ℕ) (sum i c : ℕ) → Summing s sum i → i < length s → c ≡ addend (getD s i 0 - byte "0") (length s - 1 - i)
     → Summing s ((sum + c) % 10) (i + 1)
 unfolding luhnSum
 sum-turn s sum i c v h e =

@@ -4,6 +4,7 @@ use mathlib.Core.Bool.{Bool, cond, _&&_}
 use mathlib.Core.List.{List, [], _∷_}
 use lib.Dec.{eqb}
 use lib.ListN.{length, take}
+use Rattle.theory.specs.Text.{byte}
 use Rattle.theory.specs.Every.{leading}
 use Rattle.fields.specs.Field.{digit}
 use Rattle.characters.specs.Characters.{filled}
@@ -25,13 +26,13 @@ unfoldable pub doubled : ℕ → ℕ
 doubled d = 2 * d / 10 + 2 * d % 10
 
 -- what a digit adds to the Luhn sum: it is doubled where an odd number of digits stands behind it
-unfoldable pub counted : ℕ → ℕ → ℕ
-counted d behind = cond (eqb (behind % 2) 1) (doubled d) d
+unfoldable pub addend : ℕ → ℕ → ℕ
+addend d behind = cond (eqb (behind % 2) 1) (doubled d) d
 
 -- the Luhn sum of digits, check digit last
 unfoldable pub luhnSum : List ℕ → ℕ
 luhnSum [] = 0
-luhnSum (x ∷ xs) = counted (x - 48) (length xs) + luhnSum xs
+luhnSum (x ∷ xs) = addend (x - byte "0") (length xs) + luhnSum xs
 
 -- L5: the Luhn sum of the digits is a multiple of ten
 unfoldable pub luhn : List ℕ → Bool

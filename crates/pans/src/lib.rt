@@ -4,7 +4,7 @@ ghost use mathlib.Core.Bool.{true};
 ghost use Prim.Native.Nat.{_<_, _%_};
 ghost use Rattle.theory.specs.Every.{all};
 ghost use Rattle.fields.specs.Field.{digit};
-ghost use Rattle.pans.specs.Pan.{doubled, counted, luhnSum};
+ghost use Rattle.pans.specs.Pan.{doubled, addend, luhnSum};
 ghost use Rattle.pans.specs.Promises.{IsPan, IsLuhn};
 
 const PAN_LENGTH: usize = 19;
@@ -22,9 +22,9 @@ fn doubled(d: u64) -> u64
     2 * d / 10 + 2 * d % 10
 }
 
-fn counted(d: u64, behind: usize) -> u64
+fn addend(d: u64, behind: usize) -> u64
     requires { ⌜ d < 10 ⌝ }
-    ensures { λ r. ⌜ (r ≡ counted d behind) × (r < 10) ⌝ }
+    ensures { λ r. ⌜ (r ≡ addend d behind) × (r < 10) ⌝ }
 {
     if behind % 2 == 1 {
         return doubled(d);
@@ -52,8 +52,8 @@ fn luhn_sum(digits: &[u8]) -> u64
     let mut sum: u64 = 0;
     let mut i: usize = 0;
     while i < n {
-        let d = (digits[i] - 48) as u64;
-        sum = last_digit(sum + counted(d, n - 1 - i));
+        let d = (digits[i] - b'0') as u64;
+        sum = last_digit(sum + addend(d, n - 1 - i));
         i += 1;
     }
     sum

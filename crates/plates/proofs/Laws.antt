@@ -7,19 +7,20 @@ use native.Mathlib.Omega.{arith}
 use lib.Dec.{eqb, leb}
 use lib.ListN.{getD}
 use borrow.Author.Tests.{le-leb, leb-true}
+use Rattle.theory.specs.Text.{byte}
 use Rattle.theory.specs.laws.Truth.{same-truth}
 use Rattle.theory.specs.laws.Table.{entry}
 use Rattle.plates.specs.Plate.{allowed}
 use Rattle.plates.specs.laws.Plate.{allowedMark, allowedTable}
 
-flag : (t : Bool) → eqb (cond t 49 48) 49 ≡ t
+flag : (t : Bool) → eqb (cond t (byte "1") (byte "0")) (byte "1") ≡ t
 flag true = refl
 flag false = refl
 
 -- T5: the rule of the table at each of its 256 entries
-pub judged : (t : List ℕ) → t ≡ allowedTable → (b : ℕ) → b < 256 → eqb (getD t b 0) 49 ≡ allowed b
+pub judged : (t : List ℕ) → t ≡ allowedTable → (b : ℕ) → b < 256 → eqb (getD t b 0) (byte "1") ≡ allowed b
 unfolding allowedTable allowedMark
-judged t e b h = rw e (ap (λ (x : ℕ). eqb x 49) (entry allowedMark 256 b h) ∙ flag (allowed b))
+judged t e b h = rw e (ap (λ (x : ℕ). eqb x (byte "1")) (entry allowedMark 256 b h) ∙ flag (allowed b))
 
 -- the separators' tests as they are written for every number
 pub next-same : (q k : ℕ) → 0 < q → leb (q - 1) k ≡ leb q (k + 1)

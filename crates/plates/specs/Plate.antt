@@ -5,6 +5,7 @@ use mathlib.Core.Bool.{Bool, _&&_, _||_}
 use mathlib.Core.List.{List}
 use lib.Dec.{eqb, leb}
 use lib.ListN.{length}
+use Rattle.theory.specs.Text.{byte}
 use Rattle.theory.specs.Every.{run, leading}
 use Rattle.texts.specs.Field.{field}
 use Rattle.fields.specs.Field.{between, digit, capital, blank}
@@ -14,7 +15,7 @@ use Rattle.numbers.specs.Number.{number}
 -- A-Z, 0-9, a-z, Ä Ö Ü ä ü (C4 D6 DC E4 FC)
 unfoldable pub allowed : ℕ → Bool
 allowed b =
-    between 65 90 b || between 48 57 b || between 97 122 b
+    capital b || digit b || between (byte "a") (byte "z") b
     || eqb b 0xc4 || eqb b 0xd6 || eqb b 0xdc || eqb b 0xe4 || eqb b 0xfc
 
 abbrev pub plateLength : ℕ

@@ -32,7 +32,7 @@ fn admits(table: &[u8; 256], b: u8) -> bool
     requires { ⌜ now table ≡ allowedTable ⌝ }
     ensures { λ r. ⌜ r ≡ allowed b ⌝ }
 {
-    table[b as usize] == 49
+    table[b as usize] == b'1'
 }
 
 // The table is lent, since a constant that is read in a loop is made anew in each turn.

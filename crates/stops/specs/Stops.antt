@@ -6,7 +6,7 @@ use mathlib.Core.List.{List, [], _∷_}
 use lib.Dec.{eqb}
 use Rattle.theory.specs.First.{Rule, _if_, first}
 use Rattle.times.specs.Time.{realTime}
-use Rattle.issuers.specs.Rows.{rows, known}
+use Rattle.issuers.specs.Rows.{rowsHold, known}
 use Rattle.hgv.specs.Layout.{lengthHolds}
 use Rattle.frames.specs.Frames.{footerHolds, framesHold}
 use Rattle.header.specs.Header.{sender, headerHolds}
@@ -31,7 +31,7 @@ formStops mode reception register b h =
     (21 if not (modeHolds mode))
     ∷ (22 if not (realTime reception))
     ∷ (23 if not (inOrder register))
-    ∷ (24 if not (rows b))
+    ∷ (24 if not (rowsHold b))
     ∷ (25 if not (lengthHolds h))
     ∷ (26 if not (headerHolds h))
     ∷ (27 if not (versionHolds h))

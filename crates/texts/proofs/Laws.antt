@@ -1,13 +1,13 @@
 -- Laws of the definitions of specs/, in the form that the functions use. Assumes nothing.
 use mathlib.Core.Path.{_≡_, sym, _∙_}
-use mathlib.Core.Bool.{Bool, true, false, _||_}
+use mathlib.Core.Bool.{Bool, true, false}
 use mathlib.Core.List.{List}
 use Prim.Native.Nat.{ℕ, _<_, _≤_, _+_, _-_, _/_}
 use native.Mathlib.Omega.{arith}
 use lib.ListN.{length, take, drop, length-drop, drop-of-length-le}
 use lib.Seq.{take-all, take-nil}
 use Rattle.theory.specs.Same.{eqs, mem}
-use Rattle.theory.specs.Parts.{chop, partAt}
+use Rattle.theory.specs.Parts.{partAt}
 use Rattle.theory.specs.laws.Parts.{partsFrom, parts-start, parts-step, parts-end}
 use Rattle.texts.specs.Field.{field, listed}
 
@@ -16,9 +16,9 @@ module _ (text : List ℕ) (from to : ℕ) where
   unfolding field
   field-none h = let k : length text ≤ from - 1 = omega arith in rw (drop-of-length-le text) (sym (take-nil (to + 1 - from)))
 
-  pub field-short : from ≤ length text → length text < to → take (length text - (from - 1)) (drop (from - 1) text) ≡ field from to text
+  pub field-cut : from ≤ length text → length text < to → take (length text - (from - 1)) (drop (from - 1) text) ≡ field from to text
   unfolding field
-  field-short h k =
+  field-cut h k =
       take-all (length text - (from - 1)) (drop (from - 1) text) (rw length-drop (omega arith))
       ∙ sym (take-all (to + 1 - from) (drop (from - 1) text) (rw length-drop (omega arith)))
 

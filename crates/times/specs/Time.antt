@@ -6,6 +6,7 @@ use mathlib.Core.List.{List, _++_}
 use lib.Dec.{leb, eqb}
 use Rattle.theory.specs.Text.{bytes}
 use Rattle.theory.specs.Every.{run}
+use Rattle.sizes.specs.Sizes.{timeLength}
 use Rattle.texts.specs.Field.{field}
 use Rattle.fields.specs.Field.{between, digit}
 use Rattle.numbers.specs.Number.{number}
@@ -59,7 +60,7 @@ realMoment y m d h i s = realDay y m d && realClock h i s
 
 -- 14 digits that write such numbers
 unfoldable pub realTime : List ℕ → Bool
-realTime t = run digit 14 t && realMoment (year t) (month t) (day t) (hour t) (minute t) (second t)
+realTime t = run digit timeLength t && realMoment (year t) (month t) (day t) (hour t) (minute t) (second t)
 
 -- eight digits that midnight makes a real time
 unfoldable pub realDate : List ℕ → Bool

@@ -56,7 +56,7 @@ fn has_clock(t: &[u8]) -> bool
 pub fn is_real_time(t: &[u8]) -> bool
     ensures { λ r. ⌜ IsRealTime (now (t .entry)) r ⌝ }
 {
-    fields::is_digits(t, 14) & (has_day(t) & has_clock(t))
+    fields::is_digits(t, sizes::TIME) & (has_day(t) & has_clock(t))
 }
 
 pub fn is_real_date(d: &[u8]) -> bool

@@ -1,9 +1,12 @@
--- What the public function of this crate promises. Assumes nothing.
+-- What each public function of this crate promises. Assumes nothing.
 use mathlib.Core.Path.{_≡_}
 use mathlib.Core.Bool.{Bool}
 use mathlib.Core.List.{List}
 use Prim.Native.Nat.{ℕ}
-use Rattle.vehicles.specs.Vehicle.{L10}
+use Rattle.vehicles.specs.Vehicle.{vehicleHolds, weightHolds}
 
-abbrev pub HoldsL10 : List ℕ → Bool → Type 0
-HoldsL10 l r = r ≡ L10 l
+abbrev pub HoldsVehicle : List ℕ → Bool → Type 0
+HoldsVehicle l r = r ≡ vehicleHolds l
+
+abbrev pub HoldsWeight : List ℕ → Bool → Type 0
+HoldsWeight l r = r ≡ weightHolds l

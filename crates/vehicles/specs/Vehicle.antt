@@ -1,11 +1,12 @@
--- L10, part by part: what a line says of the vehicle, its end and its separators. A rule's name stands for "it holds".
--- Assumes nothing.
+-- The two parts of L10: what a line says of the vehicle, its end and its separators, field by field; and the weight's limit.
+-- A rule's name stands for "it holds". Assumes nothing.
 use Prim.Native.Nat.{ℕ}
 use mathlib.Core.Bool.{Bool, not, _&&_, _||_}
 use mathlib.Core.List.{List}
 use lib.Dec.{eqb, leb, ltb}
 use Rattle.theory.specs.Text.{bytes}
 use Rattle.theory.specs.Every.{run}
+use Rattle.sizes.specs.Sizes.{timeLength}
 use Rattle.texts.specs.Field.{listed}
 use Rattle.fields.specs.Field.{digit, zeroDigit, blank}
 use Rattle.numbers.specs.Number.{number}
@@ -35,22 +36,22 @@ engineHolds l = run digit 3 (engine l) && (leb (number (engine l)) 52 || eqb (nu
 
 -- Valid to: 14 zeros or a real time
 unfoldable pub validToHolds : List ℕ → Bool
-validToHolds l = run zeroDigit 14 (validTo l) || realTime (validTo l)
+validToHolds l = run zeroDigit timeLength (validTo l) || realTime (validTo l)
 
 -- separator, of a plate of so many characters
 unfoldable pub separatorHolds : List ℕ → Bool
 separatorHolds l = separator (separatorOf l) (plateCharacters (plateOf l))
 
--- everything but emission and the weight's limit
+-- the fields of L10 but emission
 unfoldable pub fieldsHold : List ℕ → Bool
 fieldsHold l =
     run blank 6 (shadow l) && tariffHolds l && classHolds l && productHolds l && engineHolds l
     && run digit 2 (co2 l) && run digit 4 (weight l) && validToHolds l && separatorHolds l && run zeroDigit 11 (filler l)
 
--- tariff 12 or 22: a weight of at most 0350, in 10 kg; 0000 is missing
+-- what L10 asks of the fields, a weight of four digits among them
+unfoldable pub vehicleHolds : List ℕ → Bool
+vehicleHolds l = emissionHolds l && fieldsHold l
+
+-- the limit that L10 sets a weight by its tariff: with 12 or 22 at most 0350, in 10 kg; 0000 is missing and meets it
 unfoldable pub weightHolds : List ℕ → Bool
 weightHolds l = not (listed 2 (bytes "1222") (tariff l) && ltb 350 (number (weight l)))
-
--- L10 holds: none of its parts is broken
-unfoldable pub L10 : List ℕ → Bool
-L10 l = emissionHolds l && fieldsHold l && weightHolds l

@@ -1,10 +1,10 @@
-// L10: what a line says of the vehicle, its end and its separators.
+// The two parts of L10: what a line says of the vehicle, its end and its separators; and the weight's limit.
 ghost use mathlib.Core.Path.{_≡_};
 ghost use mathlib.Core.Bool.{_||_};
 ghost use Rattle.theory.specs.Every.{run};
 ghost use Rattle.fields.specs.Field.{digit, blank};
-ghost use Rattle.vehicles.specs.Vehicle.{tariffHolds, classHolds, emissionHolds, productHolds, engineHolds, validToHolds, separatorHolds, fieldsHold, weightHolds};
-ghost use Rattle.vehicles.specs.Promises.{HoldsL10};
+ghost use Rattle.vehicles.specs.Vehicle.{tariffHolds, classHolds, emissionHolds, productHolds, engineHolds, validToHolds, separatorHolds, fieldsHold};
+ghost use Rattle.vehicles.specs.Promises.{HoldsVehicle, HoldsWeight};
 
 // The highest code that a light vehicle's weight may have, in 10 kg.
 const LIGHT_MOST: u64 = 350;
@@ -73,7 +73,7 @@ fn has_valid_to(l: &[u8]) -> bool
     ensures { λ r. ⌜ r ≡ validToHolds (now (l .entry)) ⌝ }
 {
     let valid_to = texts::field(l, columns::VALID_TO_FROM, columns::VALID_TO_TO);
-    if fields::is_zeros(valid_to, 14) {
+    if fields::is_zeros(valid_to, sizes::TIME) {
         return true;
     }
     times::is_real_time(valid_to)
@@ -107,16 +107,16 @@ fn has_fields(l: &[u8]) -> bool
         )
 }
 
-fn has_light_weight(l: &[u8]) -> bool
-    ensures { λ r. ⌜ r ≡ weightHolds (now (l .entry)) ⌝ }
+pub fn holds_vehicle(l: &[u8]) -> bool
+    ensures { λ r. ⌜ HoldsVehicle (now (l .entry)) r ⌝ }
+{
+    has_emission(l) & has_fields(l)
+}
+
+pub fn holds_weight(l: &[u8]) -> bool
+    ensures { λ r. ⌜ HoldsWeight (now (l .entry)) r ⌝ }
 {
     let tariff = texts::field(l, columns::TARIFF_FROM, columns::TARIFF_TO);
     let weight = numbers::number(texts::field(l, columns::WEIGHT_FROM, columns::WEIGHT_TO));
     !(texts::listed(tariff, 2, b"1222") & (LIGHT_MOST < weight))
-}
-
-pub fn holds_l10(l: &[u8]) -> bool
-    ensures { λ r. ⌜ HoldsL10 (now (l .entry)) r ⌝ }
-{
-    has_emission(l) & has_fields(l) & has_light_weight(l)
 }

@@ -1,7 +1,7 @@
 -- A framed line, for those who read one. Assumes nothing.
 use mathlib.Core.Path.{_≡_, sym, _∙_}
 use mathlib.Core.Bool.{Bool, true, _&&_}
-use mathlib.Core.List.{List, [], _∷_, _++_}
+use mathlib.Core.List.{List, _++_}
 use Prim.Native.Nat.{ℕ, _+_, _-_, _≤_}
 use native.Mathlib.Omega.{arith}
 use lib.ListN.{length}
@@ -16,13 +16,13 @@ use Rattle.fields.specs.Field.{plain}
 use Rattle.frames.specs.Frames.{framed}
 
 -- a line is its two ends and the text between
-pub framed-is : (width : ℕ) (l : List ℕ) → framed width l ≡ true → length l ≡ width → 3 ≤ width → l ≡ 49 ∷ (field 2 (width - 1) l ++ (10 ∷ []))
+pub framed-is : (width : ℕ) (l : List ℕ) → framed width l ≡ true → length l ≡ width → 3 ≤ width → l ≡ bytes "1" ++ (field 2 (width - 1) l ++ lineEnd)
 unfolding framed
 framed-is width l f e h =
     let front : Bool = eqs (field 1 1 l) (bytes "1") in
     let text : Bool = all plain (field 2 (width - 1) l) in
     let end : Bool = eqs (field width width l) lineEnd in
-    let a : field 1 1 l ≡ 49 ∷ [] = eqs-true (field 1 1 l) (bytes "1") (and-left front text (and-left (front && text) end f)) in
+    let a : field 1 1 l ≡ bytes "1" = eqs-true (field 1 1 l) (bytes "1") (and-left front text (and-left (front && text) end f)) in
     let z : field width width l ≡ lineEnd = eqs-true (field width width l) lineEnd (and-right (front && text) end f) in
     let w : width - 1 + 1 ≡ width = omega arith in
     let s : field 2 width l ≡ field 2 (width - 1) l ++ lineEnd = field-split 2 width (width - 1) l (omega arith) (omega arith) (omega arith) ∙ rw (w, z) in

@@ -6,12 +6,13 @@ use native.Mathlib.Omega.{arith}
 use borrow.Author.Tests.{not-true, not-false}
 use Rattle.theory.specs.laws.Parts.{part-fits}
 use Rattle.theory.specs.laws.Walk.{EachFrom, each-start, each-on, each-off, each-end}
-use Rattle.issuers.specs.Rows.{row}
+use Rattle.sizes.specs.Sizes.{rowLength}
+use Rattle.issuers.specs.Rows.{rowHolds}
 use Rattle.issuers.proofs.each_row.Statement.{statement}
 use Rattle.issuers.proofs.each_row.Tie as tie
 
 abbrev Inv-loop : tie.InvT-loop
-Inv-loop b n i₀ i = (i ≤ n) × EachFrom row 24 n b i
+Inv-loop b n i₀ i = (i ≤ n) × EachFrom rowHolds rowLength n b i
 
 abbrev μ-loop : tie.MeasureT-loop
 μ-loop b n i₀ i = n - i
@@ -20,7 +21,7 @@ loop-holds : tie.Need-loop-holds Inv-loop μ-loop
 loop-holds c = (omega arith, each-start _ _ _ _)
 
 part-requires : tie.Need-part-requires Inv-loop μ-loop
-part-requires c κs = part-fits 24 (c .before .before .before .args .n) (c .before .loop .i) _ (c .before .before .before .pre) (c .loop-test .taken)
+part-requires c κs = part-fits rowLength (c .before .before .before .args .n) (c .before .loop .i) _ (c .before .before .before .pre) (c .loop-test .taken)
 
 returns : tie.Need-returns Inv-loop μ-loop
 returns c = sym (each-off _ _ _ _ _ (c .before .before .before .before .loop .inv .1) (c .before .before .before .loop-test .taken) _ (c .before .before .part .ensures) _ (c .before .is-row .ensures) (not-true _ (c .if1 .taken)))

@@ -4,12 +4,13 @@ use Prim.Native.Nat.{_≤_, _-_}
 use native.Mathlib.Omega.{arith}
 use Rattle.theory.specs.laws.Parts.{whole-fits}
 use Rattle.theory.specs.laws.Walk.{SomeFrom, some-start, some-turn, some-end}
+use Rattle.sizes.specs.Sizes.{rowLength}
 use Rattle.issuers.specs.Rows.{sentBy, known}
 use Rattle.issuers.proofs.is_known.Statement.{statement}
 use Rattle.issuers.proofs.is_known.Tie as tie
 
 abbrev Inv-loop : tie.InvT-loop
-Inv-loop b sender n found₀ i₀ found i = (i ≤ n) × SomeFrom (sentBy sender) 24 n b i found
+Inv-loop b sender n found₀ i₀ found i = (i ≤ n) × SomeFrom (sentBy sender) rowLength n b i found
 
 abbrev μ-loop : tie.MeasureT-loop
 μ-loop b sender n found₀ i₀ found i = n - i
@@ -18,7 +19,7 @@ loop-holds : tie.Need-loop-holds Inv-loop μ-loop
 loop-holds c = (omega arith, some-start _ _ _ _)
 
 part-requires : tie.Need-part-requires Inv-loop μ-loop
-part-requires c κs = whole-fits 24 _ _ (c .loop-test .taken)
+part-requires c κs = whole-fits rowLength _ _ (c .loop-test .taken)
 
 loop-again : tie.Need-loop-again Inv-loop μ-loop
 loop-again c = (omega arith, some-turn _ _ _ _ _ _ (c .before .before .before .loop .inv .1) (c .before .before .loop-test .taken) _ (c .before .part .ensures) _ (c .is-sent-by .ensures))

@@ -3,7 +3,7 @@ use borrow.Author.Needs.{needs}
 use native.Mathlib.Omega.{arith}
 use Rattle.characters.specs.Characters.{filled}
 use Rattle.texts.specs.laws.Field.{field-short}
-use Rattle.issuers.specs.Rows.{row}
+use Rattle.issuers.specs.Rows.{rowHolds}
 use Rattle.issuers.proofs.is_row.Statement.{statement}
 use Rattle.issuers.proofs.is_row.Tie as tie
 
@@ -14,7 +14,7 @@ number-requires-2 : tie.Need-number-requires-2
 number-requires-2 c κs = field-short _ _ 15 _ _ (c .field3 .ensures) (omega arith)
 
 returns : tie.Need-returns
-unfolding row filled
+unfolding rowHolds filled
 returns c =
     rw (
       c .is-digits3 .ensures,

@@ -6,7 +6,7 @@ use Rattle.lines.proofs.holds_l1.Tie as tie
 
 returns : tie.Need-returns
 unfolding L1
-returns c = cc
+returns c = rw (c .is-pan .ensures, c .before .field .ensures)
 
 pub holds-l1-spec : {M : Type 1} → statement M
 holds-l1-spec =

@@ -6,7 +6,7 @@ use Rattle.lines.proofs.holds_l2.Tie as tie
 
 returns : tie.Need-returns
 unfolding L2
-returns c = cc
+returns c = rw (c .same .ensures, c .before .field .ensures)
 
 pub holds-l2-spec : {M : Type 1} → statement M
 holds-l2-spec =

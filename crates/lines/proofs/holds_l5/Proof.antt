@@ -6,7 +6,7 @@ use Rattle.lines.proofs.holds_l5.Tie as tie
 
 returns : tie.Need-returns
 unfolding L5
-returns c = cc
+returns c = rw (c .is-luhn .ensures, c .before .field .ensures)
 
 pub holds-l5-spec : {M : Type 1} → statement M
 holds-l5-spec =

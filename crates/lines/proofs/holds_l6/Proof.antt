@@ -6,7 +6,7 @@ use Rattle.lines.proofs.holds_l6.Tie as tie
 
 returns : tie.Need-returns
 unfolding L6
-returns c = cc
+returns c = rw (c .is-plate .ensures, c .before .field .ensures)
 
 pub holds-l6-spec : {M : Type 1} → statement M
 holds-l6-spec =

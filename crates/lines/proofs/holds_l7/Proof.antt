@@ -6,7 +6,7 @@ use Rattle.lines.proofs.holds_l7.Tie as tie
 
 returns : tie.Need-returns
 unfolding L7
-returns c = cc
+returns c = rw (c .is-nationality .ensures, c .before .field .ensures)
 
 pub holds-l7-spec : {M : Type 1} → statement M
 holds-l7-spec =

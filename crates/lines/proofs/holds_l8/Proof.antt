@@ -6,7 +6,7 @@ use Rattle.lines.proofs.holds_l8.Tie as tie
 
 returns : tie.Need-returns
 unfolding L8
-returns c = cc
+returns c = rw (c .is-hex .ensures, c .before .field .ensures)
 
 pub holds-l8-spec : {M : Type 1} → statement M
 holds-l8-spec =

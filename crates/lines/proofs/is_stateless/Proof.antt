@@ -6,7 +6,7 @@ use Rattle.lines.proofs.is_stateless.Tie as tie
 
 returns : tie.Need-returns
 unfolding stateless
-returns c = cc
+returns c = rw (c .is-blanks .ensures, c .before .field .ensures)
 
 pub is-stateless-spec : {M : Type 1} → statement M
 is-stateless-spec =

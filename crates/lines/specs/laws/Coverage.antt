@@ -10,7 +10,7 @@ use lib.Dec.{eqb, leb}
 use lib.ListN.{length, take, drop, getD}
 use lib.Seq.{getD-take, getD-drop}
 use borrow.Author.Tests.{eqb-true, leb-true, leb-false, le-leb, not-true}
-use Rattle.theory.specs.Text.{bytes}
+use Rattle.theory.specs.Text.{byte, bytes}
 use Rattle.theory.specs.laws.Truth.{and-left, and-right, and-split, or-true, joined, joined-each}
 use Rattle.theory.specs.Each.{Each, none, more}
 use Rattle.theory.specs.laws.Each.{each-map, each-both}
@@ -18,6 +18,7 @@ use Rattle.theory.specs.Every.{all, run}
 use Rattle.theory.specs.laws.Every.{run-length, run-all, all-run, all-at, run-wider, run-append}
 use Rattle.theory.specs.Table.{tableFrom, tableOf}
 use Rattle.theory.specs.laws.Table.{entry, length-table}
+use Rattle.sizes.specs.Sizes.{timeLength}
 use Rattle.texts.specs.Field.{field, listed}
 use Rattle.texts.specs.laws.Field.{field-most, field-split, field-field}
 use Rattle.fields.specs.Field.{between, digit, zeroDigit, blank, capital, plain}
@@ -27,24 +28,24 @@ use Rattle.characters.specs.laws.Filled.{filled-all}
 use Rattle.numbers.specs.Number.{number}
 use Rattle.times.specs.Time.{realTime}
 use Rattle.times.specs.laws.Moment.{within, real-length, real-all}
-use Rattle.pans.specs.Pan.{pan}
-use Rattle.plates.specs.Plate.{allowed, plate, nationality, separator, separated, plateCharacters}
+use Rattle.pans.specs.Pan.{panLength, pan}
+use Rattle.plates.specs.Plate.{allowed, plateLength, plate, nationality, separator, separated, plateCharacters}
 use Rattle.columns.specs.Columns.{text, actor, panOf, plateOf, nationalityOf, tariff, class, axles, emission, fuel, chargeable, productRest, engine, validTo, separatorOf}
-use Rattle.vehicles.specs.Vehicle.{L10, tariffHolds, classHolds, emissionHolds, productHolds, engineHolds, validToHolds, separatorHolds}
-use Rattle.vehicles.specs.laws.Parts.{Parts, l10-parts}
+use Rattle.vehicles.specs.Vehicle.{tariffHolds, classHolds, emissionHolds, productHolds, engineHolds, validToHolds, separatorHolds, vehicleHolds, weightHolds}
+use Rattle.vehicles.specs.laws.Parts.{Parts, vehicle-parts}
 use Rattle.lines.specs.Rules.{L1, L5, L6, L7, L8, L9, recordHolds}
 
 -- positions `from` to `to`, the rule that fixes them, and the bytes that it admits there
-pub record Row : Type 0 where
+pub record Span : Type 0 where
   pub from : ℕ
   pub to : ℕ
   pub rule : List ℕ → Bool
   pub admits : ℕ → Bool
 
-abbrev pub row : ℕ → ℕ → (List ℕ → Bool) → (ℕ → Bool) → Row
-row from to rule admits = record { from = from; to = to; rule = rule; admits = admits }
+abbrev span : ℕ → ℕ → (List ℕ → Bool) → (ℕ → Bool) → Span
+span from to rule admits = record { from = from; to = to; rule = rule; admits = admits }
 
-abbrev pub orBlank : (ℕ → Bool) → ℕ → Bool
+abbrev orBlank : (ℕ → Bool) → ℕ → Bool
 orBlank p b = p b || blank b
 
 -- one of these characters
@@ -53,53 +54,53 @@ oneOf [] b = false
 oneOf (x ∷ xs) b = eqb b x || oneOf xs b
 
 -- a record's actor has six digits
-abbrev pub sixDigits : List ℕ → Bool
+abbrev sixDigits : List ℕ → Bool
 sixDigits l = run digit 6 (actor l)
 
-unfoldable pub rows : List Row
-rows =
-    row 2 7 sixDigits digit
-    ∷ row 8 13 L10 blank
-    ∷ row 14 32 L1 (orBlank digit)
-    ∷ row 33 42 L6 (orBlank allowed)
-    ∷ row 43 44 L7 capital
-    ∷ row 45 45 L7 blank
-    ∷ row 46 47 L10 (oneOf (bytes "1234567"))
-    ∷ row 48 48 L10 (orBlank digit)
-    ∷ row 49 49 L10 (orBlank digit)
-    ∷ row 50 61 L8 hex
-    ∷ row 62 79 L9 hex
-    ∷ row 80 85 L10 (oneOf (bytes "01234567EVuro "))
-    ∷ row 86 87 L10 (oneOf (bytes "01234569"))
-    ∷ row 88 88 L10 (oneOf (bytes "YN"))
-    ∷ row 89 91 L10 blank
-    ∷ row 92 94 L10 digit
-    ∷ row 95 96 L10 digit
-    ∷ row 97 100 L10 digit
-    ∷ row 101 114 L10 digit
-    ∷ row 115 116 L10 digit
-    ∷ row 117 127 L10 zeroDigit
+unfoldable pub spans : List Span
+spans =
+    span 2 7 sixDigits digit
+    ∷ span 8 13 vehicleHolds blank
+    ∷ span 14 32 L1 (orBlank digit)
+    ∷ span 33 42 L6 (orBlank allowed)
+    ∷ span 43 44 L7 capital
+    ∷ span 45 45 L7 blank
+    ∷ span 46 47 vehicleHolds (oneOf (bytes "1234567"))
+    ∷ span 48 48 vehicleHolds (orBlank digit)
+    ∷ span 49 49 vehicleHolds (orBlank digit)
+    ∷ span 50 61 L8 hex
+    ∷ span 62 79 L9 hex
+    ∷ span 80 85 vehicleHolds (oneOf (bytes "01234567EVuro "))
+    ∷ span 86 87 vehicleHolds (oneOf (bytes "01234569"))
+    ∷ span 88 88 vehicleHolds (oneOf (bytes "YN"))
+    ∷ span 89 91 vehicleHolds blank
+    ∷ span 92 94 vehicleHolds digit
+    ∷ span 95 96 vehicleHolds digit
+    ∷ span 97 100 vehicleHolds digit
+    ∷ span 101 114 vehicleHolds digit
+    ∷ span 115 116 vehicleHolds digit
+    ∷ span 117 127 vehicleHolds zeroDigit
     ∷ []
 
--- the rows go from the position a to b, without gap or overlap
-unfoldable pub cover : ℕ → ℕ → List Row → Bool
+-- the spans go from the position a to b, without gap or overlap
+unfoldable pub cover : ℕ → ℕ → List Span → Bool
 cover a b [] = eqb a (b + 1)
 cover a b (r ∷ rs) = eqb a (r .from) && leb a (r .to) && cover (r .to + 1) b rs
 
-pub rows-cover : cover 2 127 rows ≡ true
-unfolding cover rows
-rows-cover = refl
+pub spans-cover : cover 2 127 spans ≡ true
+unfolding cover spans
+spans-cover = refl
 
--- a row lies at a position, and admits this byte there
-unfoldable pub admitted : List Row → ℕ → ℕ → Bool
+-- a span lies at a position, and admits this byte there
+unfoldable pub admitted : List Span → ℕ → ℕ → Bool
 admitted [] p b = false
 admitted (r ∷ rs) p b = between (r .from) (r .to) p && r .admits b || admitted rs p b
 
--- the row's positions are all there, and what stands in them is admitted
-abbrev pub Held : List ℕ → Row → Type 0
+-- the span's positions are all there, and what stands in them is admitted
+abbrev pub Held : List ℕ → Span → Type 0
 Held l r = run (r .admits) (r .to + 1 - r .from) (field (r .from) (r .to) l) ≡ true
 
--- ---- row by row
+-- ---- span by span
 
 -- one of two tests holds
 either : (P : Type 0) (a b : Bool) → a || b ≡ true → (a ≡ true → P) → (b ≡ true → P) → P
@@ -107,22 +108,22 @@ either P true b h f g = f refl
 either P false b h f g = g h
 
 zero-digit : (b : ℕ) → zeroDigit b ≡ true → digit b ≡ true
-zero-digit b h = let s = within 48 48 b h in let e : b ≡ 48 = omega arith in rw e
+zero-digit b h = let s = within (byte "0") (byte "0") b h in let e : b ≡ byte "0" = omega arith in rw e
 
 module _ (l : List ℕ) where
-  pan-held : L1 l ≡ true → Held l (row 14 32 L1 (orBlank digit))
+  pan-held : L1 l ≡ true → Held l (span 14 32 L1 (orBlank digit))
   unfolding L1 pan
   pan-held h =
-      let s = and-split (eqb (length (panOf l)) 19) (filled digit (panOf l)) h in
-      all-run (orBlank digit) 19 (panOf l) (eqb-true (length (panOf l)) 19 (s .0)) (filled-all digit (panOf l) (s .1))
+      let s = and-split (eqb (length (panOf l)) panLength) (filled digit (panOf l)) h in
+      all-run (orBlank digit) panLength (panOf l) (eqb-true (length (panOf l)) panLength (s .0)) (filled-all digit (panOf l) (s .1))
 
-  plate-held : L6 l ≡ true → Held l (row 33 42 L6 (orBlank allowed))
+  plate-held : L6 l ≡ true → Held l (span 33 42 L6 (orBlank allowed))
   unfolding L6 plate
   plate-held h =
-      let s = and-split (eqb (length (plateOf l)) 10) (filled allowed (plateOf l)) h in
-      all-run (orBlank allowed) 10 (plateOf l) (eqb-true (length (plateOf l)) 10 (s .0)) (filled-all allowed (plateOf l) (s .1))
+      let s = and-split (eqb (length (plateOf l)) plateLength) (filled allowed (plateOf l)) h in
+      all-run (orBlank allowed) plateLength (plateOf l) (eqb-true (length (plateOf l)) plateLength (s .0)) (filled-all allowed (plateOf l) (s .1))
 
-  nationality-held : L7 l ≡ true → Held l (row 43 44 L7 capital) × Held l (row 45 45 L7 blank)
+  nationality-held : L7 l ≡ true → Held l (span 43 44 L7 capital) × Held l (span 45 45 L7 blank)
   unfolding L7 nationality
   nationality-held h =
       let f : List ℕ = nationalityOf l in
@@ -134,37 +135,37 @@ module _ (l : List ℕ) where
   digit-or-blank f h =
       either (run (orBlank digit) 1 f ≡ true) (run digit 1 f) (run blank 1 f) h (run-wider digit (orBlank digit) (λ b e. rw e) 1 f) (run-wider blank (orBlank digit) (λ b. or-true (digit b) (blank b)) 1 f)
 
-  class-held : classHolds l ≡ true → Held l (row 48 48 L10 (orBlank digit)) × Held l (row 49 49 L10 (orBlank digit))
+  class-held : classHolds l ≡ true → Held l (span 48 48 vehicleHolds (orBlank digit)) × Held l (span 49 49 vehicleHolds (orBlank digit))
   unfolding classHolds
   class-held h =
       let s = and-split (run digit 1 (class l) || run blank 1 (class l)) (run digit 1 (axles l) || run blank 1 (axles l)) h in
       (digit-or-blank (class l) (s .0), digit-or-blank (axles l) (s .1))
 
-  tariff-held : tariffHolds l ≡ true → Held l (row 46 47 L10 (oneOf (bytes "1234567")))
+  tariff-held : tariffHolds l ≡ true → Held l (span 46 47 vehicleHolds (oneOf (bytes "1234567")))
   unfolding tariffHolds all oneOf
   tariff-held = listed-run (oneOf (bytes "1234567")) 2 _ (tariff l) refl
 
-  emission-held : emissionHolds l ≡ true → Held l (row 80 85 L10 (oneOf (bytes "01234567EVuro ")))
+  emission-held : emissionHolds l ≡ true → Held l (span 80 85 vehicleHolds (oneOf (bytes "01234567EVuro ")))
   unfolding emissionHolds all oneOf
   emission-held = listed-run (oneOf (bytes "01234567EVuro ")) 6 _ (emission l) refl
 
-  engine-held : engineHolds l ≡ true → Held l (row 92 94 L10 digit)
+  engine-held : engineHolds l ≡ true → Held l (span 92 94 vehicleHolds digit)
   unfolding engineHolds
   engine-held = and-left (run digit 3 (engine l)) (leb (number (engine l)) 52 || eqb (number (engine l)) 255)
 
-  valid-held : validToHolds l ≡ true → Held l (row 101 114 L10 digit)
+  valid-held : validToHolds l ≡ true → Held l (span 101 114 vehicleHolds digit)
   unfolding validToHolds
   valid-held h =
-      either (run digit 14 (validTo l) ≡ true) (run zeroDigit 14 (validTo l)) (realTime (validTo l)) h (run-wider zeroDigit digit zero-digit 14 (validTo l))
-      (λ r. all-run digit 14 (validTo l) (real-length (validTo l) r) (real-all (validTo l) r))
+      either (run digit timeLength (validTo l) ≡ true) (run zeroDigit timeLength (validTo l)) (realTime (validTo l)) h (run-wider zeroDigit digit zero-digit timeLength (validTo l))
+      (λ r. all-run digit timeLength (validTo l) (real-length (validTo l) r) (real-all (validTo l) r))
 
-  separator-held : separatorHolds l ≡ true → Held l (row 115 116 L10 digit)
+  separator-held : separatorHolds l ≡ true → Held l (span 115 116 vehicleHolds digit)
   unfolding separatorHolds separator
   separator-held =
       let f : List ℕ = separatorOf l in
       and-left (run digit 2 f) (separated (number (field 1 1 f)) (number (field 2 2 f)) (plateCharacters (plateOf l)))
 
-  product-held : productHolds l ≡ true → Held l (row 86 87 L10 (oneOf (bytes "01234569"))) × Held l (row 88 88 L10 (oneOf (bytes "YN"))) × Held l (row 89 91 L10 blank)
+  product-held : productHolds l ≡ true → Held l (span 86 87 vehicleHolds (oneOf (bytes "01234569"))) × Held l (span 88 88 vehicleHolds (oneOf (bytes "YN"))) × Held l (span 89 91 vehicleHolds blank)
   unfolding productHolds all oneOf
   product-held h =
       let s₂ = and-split (listed 2 (bytes "01020304050609101112131415202122") (fuel l) && listed 1 (bytes "YN") (chargeable l)) (run blank 3 (productRest l)) h in
@@ -172,10 +173,10 @@ module _ (l : List ℕ) where
       (listed-run (oneOf (bytes "01234569")) 2 _ (fuel l) refl (s₁ .0), listed-run (oneOf (bytes "YN")) 1 _ (chargeable l) refl (s₁ .1), s₂ .1)
 
   -- each rule holds only where its positions are there and hold what it admits
-  pub rows-hold : Each (λ r. r .rule l ≡ true → Held l r) rows
-  unfolding rows L8 L9
-  rows-hold =
-      let part : L10 l ≡ true → Parts l = l10-parts l in
+  pub spans-hold : Each (λ r. r .rule l ≡ true → Held l r) spans
+  unfolding spans L8 L9
+  spans-hold =
+      let part : vehicleHolds l ≡ true → Parts l = vehicle-parts l in
       more (λ h. h)
       (more (λ h. part h .shadow-blank)
       (more pan-held
@@ -198,23 +199,23 @@ module _ (l : List ℕ) where
       (more (λ h. separator-held (part h .separator-holds))
       (more (λ h. part h .filler-zeros) none))))))))))))))))))))
 
-  -- the rules of a record are those of the rows
-  pub record-rules : recordHolds l ≡ true → Each (λ r. r .rule l ≡ true) rows
-  unfolding recordHolds rows joined
-  record-rules h = go (joined-each (sixDigits l) (L1 l ∷ L5 l ∷ L6 l ∷ L7 l ∷ L8 l ∷ L9 l ∷ L10 l ∷ []) h)
+  -- the rules of a record are those of the spans
+  record-rules : recordHolds l ≡ true → Each (λ r. r .rule l ≡ true) spans
+  unfolding recordHolds spans joined
+  record-rules h = go (joined-each (sixDigits l) (L1 l ∷ L5 l ∷ L6 l ∷ L7 l ∷ L8 l ∷ L9 l ∷ vehicleHolds l ∷ weightHolds l ∷ []) h)
     where
-      go : Each (λ b. b ≡ true) (sixDigits l ∷ L1 l ∷ L5 l ∷ L6 l ∷ L7 l ∷ L8 l ∷ L9 l ∷ L10 l ∷ []) → Each (λ r. r .rule l ≡ true) rows
-      go (more a (more l1 (more l5 (more l6 (more l7 (more l8 (more l9 (more l10 none)))))))) =
-          more a (more l10 (more l1 (more l6 (more l7 (more l7 (more l10 (more l10 (more l10 (more l8 (more l9
-          (more l10 (more l10 (more l10 (more l10 (more l10 (more l10 (more l10 (more l10 (more l10 (more l10 none))))))))))))))))))))
+      go : Each (λ b. b ≡ true) (sixDigits l ∷ L1 l ∷ L5 l ∷ L6 l ∷ L7 l ∷ L8 l ∷ L9 l ∷ vehicleHolds l ∷ weightHolds l ∷ []) → Each (λ r. r .rule l ≡ true) spans
+      go (more a (more l1 (more l5 (more l6 (more l7 (more l8 (more l9 (more v (more w none))))))))) =
+          more a (more v (more l1 (more l6 (more l7 (more l7 (more v (more v (more v (more l8 (more l9
+          (more v (more v (more v (more v (more v (more v (more v (more v (more v (more v none))))))))))))))))))))
 
   -- T17: so where the rules of a record hold, all positions do
-  pub record-covered : recordHolds l ≡ true → Each (Held l) rows
-  record-covered h = each-map (λ r x. x .1 (x .0)) (each-both (record-rules h) rows-hold)
+  pub record-covered : recordHolds l ≡ true → Each (Held l) spans
+  record-covered h = each-map (λ r x. x .1 (x .0)) (each-both (record-rules h) spans-hold)
 
   -- ---- position by position
 
-  held-at : (r : Row) (p : ℕ) → Held l r → 1 ≤ r .from → r .from ≤ p → p ≤ r .to → r .admits (getD l (p - 1) 0) ≡ true
+  held-at : (r : Span) (p : ℕ) → Held l r → 1 ≤ r .from → r .from ≤ p → p ≤ r .to → r .admits (getD l (p - 1) 0) ≡ true
   unfolding field
   held-at r p h o a b =
       let n : ℕ = r .to + 1 - r .from in
@@ -224,7 +225,7 @@ module _ (l : List ℕ) where
       let e : getD (take n d) i 0 ≡ getD l (p - 1) 0 = getD-take n d i 0 (omega arith) ∙ getD-drop (r .from - 1) l i 0 ∙ rw k in
       rw e at (all-at (r .admits) (take n d) i (run-all (r .admits) n (take n d) h) (omega (arith, run-length (r .admits) n (take n d) h)))
 
-  covered-at : (rs : List Row) (a b p : ℕ) → 1 ≤ a → cover a b rs ≡ true → Each (Held l) rs → a ≤ p → p ≤ b → admitted rs p (getD l (p - 1) 0) ≡ true
+  covered-at : (rs : List Span) (a b p : ℕ) → 1 ≤ a → cover a b rs ≡ true → Each (Held l) rs → a ≤ p → p ≤ b → admitted rs p (getD l (p - 1) 0) ≡ true
   unfolding cover admitted
   covered-at [] a b p o c hs x y = absurd (omega (arith, eqb-true a (b + 1) c))
   covered-at (r ∷ rs) a b p o c (more h hs) x y =
@@ -241,58 +242,58 @@ module _ (l : List ℕ) where
       go false v e j now later = or-true (between (r .from) (r .to) p && r .admits v) (admitted rs p v) (later (omega (arith, leb-false p (r .to) e)))
 
   -- and the byte at each is one that the table admits there
-  pub record-at : recordHolds l ≡ true → (p : ℕ) → 2 ≤ p → p ≤ 127 → admitted rows p (getD l (p - 1) 0) ≡ true
-  record-at h p a b = covered-at rows 2 127 p (omega arith) rows-cover (record-covered h) a b
+  pub record-at : recordHolds l ≡ true → (p : ℕ) → 2 ≤ p → p ≤ 127 → admitted spans p (getD l (p - 1) 0) ≡ true
+  record-at h p a b = covered-at spans 2 127 p (omega arith) spans-cover (record-covered h) a b
 
   -- ---- positions that all hold bytes of one kind
 
-  rows-run : (q : ℕ → Bool) (rs : List Row) (a b : ℕ) → 1 ≤ a → cover a b rs ≡ true → Each (λ r. Held l r × ((x : ℕ) → r .admits x ≡ true → q x ≡ true)) rs
+  spans-run : (q : ℕ → Bool) (rs : List Span) (a b : ℕ) → 1 ≤ a → cover a b rs ≡ true → Each (λ r. Held l r × ((x : ℕ) → r .admits x ≡ true → q x ≡ true)) rs
       → (a ≤ b + 1) × (run q (b + 1 - a) (field a b l) ≡ true)
   unfolding cover run all
-  rows-run q [] a b o c none =
+  spans-run q [] a b o c none =
       let w : b + 1 - a ≡ 0 = omega (arith, eqb-true a (b + 1) c) in
       (omega (arith, eqb-true a (b + 1) c), rw w (nothing (field a b l) (omega (arith, field-most a b l))))
     where
       nothing : (f : List ℕ) → length f ≤ 0 → run q 0 f ≡ true
       nothing [] h = refl
       nothing (x ∷ f) h = absurd (omega arith)
-  rows-run q (r ∷ rs) a b o c (more (h, g) hs) =
+  spans-run q (r ∷ rs) a b o c (more (h, g) hs) =
       let s₂ = and-split (eqb a (r .from) && leb a (r .to)) (cover (r .to + 1) b rs) c in
       let s₁ = and-split (eqb a (r .from)) (leb a (r .to)) (s₂ .0) in
       let e : a ≡ r .from = eqb-true a (r .from) (s₁ .0) in
       let n : a ≤ r .to = leb-true a (r .to) (s₁ .1) in
-      let rest = rows-run q rs (r .to + 1) b (omega arith) (s₂ .1) hs in
+      let rest = spans-run q rs (r .to + 1) b (omega arith) (s₂ .1) hs in
       let m : r .to ≤ b = omega (arith, rest .0) in
       let w : b + 1 - a ≡ (r .to + 1 - a) + (b + 1 - (r .to + 1)) = omega arith in
       let here : run q (r .to + 1 - a) (field a (r .to) l) ≡ true = rw e (run-wider (r .admits) q g (r .to + 1 - r .from) (field (r .from) (r .to) l) h) in
       (omega arith, rw (w, field-split a b (r .to) l o n m) (run-append q (r .to + 1 - a) (b + 1 - (r .to + 1)) (field a (r .to) l) (field (r .to + 1) b l) here (rest .1)))
 
   -- blanks are refused in 92-116: there zeros mean missing
-  pub blanks-refused : L10 l ≡ true → run digit 25 (field 92 116 l) ≡ true
+  pub blanks-refused : vehicleHolds l ≡ true → run digit 25 (field 92 116 l) ≡ true
   unfolding cover
   blanks-refused h =
-      let m : Parts l = l10-parts l h in
+      let m : Parts l = vehicle-parts l h in
       let digits : (x : ℕ) → digit x ≡ true → digit x ≡ true = λ x e. e in
-      rows-run digit (row 92 94 L10 digit ∷ row 95 96 L10 digit ∷ row 97 100 L10 digit ∷ row 101 114 L10 digit ∷ row 115 116 L10 digit ∷ []) 92 116 (omega arith) refl
+      spans-run digit (span 92 94 vehicleHolds digit ∷ span 95 96 vehicleHolds digit ∷ span 97 100 vehicleHolds digit ∷ span 101 114 vehicleHolds digit ∷ span 115 116 vehicleHolds digit ∷ []) 92 116 (omega arith) refl
       (more (engine-held (m .engine-holds), digits)
       (more (m .co2-digits, digits)
       (more (m .weight-digits, digits)
       (more (valid-held (m .valid-holds), digits)
       (more (separator-held (m .separator-holds), digits) none))))) .1
 
--- no row admits a control character
-clear : List Row → Bool
+-- no span admits a control character
+clear : List Span → Bool
 clear [] = true
 clear (r ∷ rs) = all (λ b. not (r .admits b)) (tableOf (λ b. b) 32) && clear rs
 
-rows-clear : clear rows ≡ true
-unfolding clear rows all tableOf tableFrom oneOf allowed
-rows-clear = refl
+spans-clear : clear spans ≡ true
+unfolding clear spans all tableOf tableFrom oneOf allowed
+spans-clear = refl
 
-rows-plain : (rs : List Row) → clear rs ≡ true → Each (λ r. (b : ℕ) → r .admits b ≡ true → plain b ≡ true) rs
+spans-plain : (rs : List Span) → clear rs ≡ true → Each (λ r. (b : ℕ) → r .admits b ≡ true → plain b ≡ true) rs
 unfolding clear
-rows-plain [] c = none
-rows-plain (r ∷ rs) c = more (λ b. go b (plain b) refl) (rows-plain rs (and-right (all refused codes) (clear rs) c))
+spans-plain [] c = none
+spans-plain (r ∷ rs) c = more (λ b. go b (plain b) refl) (spans-plain rs (and-right (all refused codes) (clear rs) c))
   where
     refused : ℕ → Bool
     refused b = not (r .admits b)
@@ -310,4 +311,4 @@ rows-plain (r ∷ rs) c = more (λ b. go b (plain b) refl) (rows-plain rs (and-r
 
 -- so no byte of a record is one
 pub record-plain : (l : List ℕ) → recordHolds l ≡ true → run plain 126 (text l) ≡ true
-record-plain l h = rows-run l plain rows 2 127 (omega arith) rows-cover (each-both (record-covered l h) (rows-plain rows rows-clear)) .1
+record-plain l h = spans-run l plain spans 2 127 (omega arith) spans-cover (each-both (record-covered l h) (spans-plain spans spans-clear)) .1

@@ -7,9 +7,11 @@ use native.Mathlib.Nat.{max-eq-left, max-eq-right}
 use native.Mathlib.Omega.{arith}
 use lib.Dec.{ltb}
 use borrow.Author.Tests.{ltb-true, ltb-false}
+use Rattle.theory.specs.Text.{byte}
 use Rattle.theory.specs.laws.Truth.{and-left, and-right}
 use Rattle.theory.specs.Every.{all, run}
 use Rattle.theory.specs.laws.Every.{run-all, all-take}
+use Rattle.sizes.specs.Sizes.{timeLength}
 use Rattle.texts.specs.Field.{field}
 use Rattle.fields.specs.Field.{zeroDigit}
 use Rattle.numbers.specs.Number.{number, numberAfter}
@@ -23,23 +25,23 @@ zeros-number : (s : List ℕ) → all zeroDigit s ≡ true → numberAfter 0 s �
 unfolding all numberAfter
 zeros-number [] h = refl
 zeros-number (x ∷ s) h =
-    let z : (48 ≤ x) × (x ≤ 48) = within 48 48 x (and-left (zeroDigit x) (all zeroDigit s) h) in
-    let e : 0 * 10 + (x - 48) ≡ 0 = omega arith in
+    let z : (byte "0" ≤ x) × (x ≤ byte "0") = within (byte "0") (byte "0") x (and-left (zeroDigit x) (all zeroDigit s) h) in
+    let e : 0 * 10 + (x - byte "0") ≡ 0 = omega arith in
     rw e (zeros-number s (and-right (zeroDigit x) (all zeroDigit s) h))
 
 -- zeros are no real time, since there is no year 0000
-pub real-zeros : (v : List ℕ) → realTime v ≡ true → run zeroDigit 14 v ≡ false
+real-zeros : (v : List ℕ) → realTime v ≡ true → run zeroDigit timeLength v ≡ false
 unfolding number field
-real-zeros v h = go (run zeroDigit 14 v) refl
+real-zeros v h = go (run zeroDigit timeLength v) refl
   where
-    go : (b : Bool) → run zeroDigit 14 v ≡ b → b ≡ false
+    go : (b : Bool) → run zeroDigit timeLength v ≡ b → b ≡ false
     go false e = refl
-    go true e = absurd (omega (arith, real-moment v h .year .0, zeros-number (field 1 4 v) (all-take zeroDigit 4 v (run-all zeroDigit 14 v e))))
+    go true e = absurd (omega (arith, real-moment v h .year .0, zeros-number (field 1 4 v) (all-take zeroDigit 4 v (run-all zeroDigit timeLength v e))))
 
 -- ---- the end
 
 -- zeros stay zeros
-pub end-zeros : (reception v : List ℕ) → run zeroDigit 14 v ≡ true → endOf reception v ≡ v
+pub end-zeros : (reception v : List ℕ) → run zeroDigit timeLength v ≡ true → endOf reception v ≡ v
 unfolding endOf
 end-zeros reception v h = rw h
 
@@ -60,7 +62,7 @@ module _ (reception v : List ℕ) (r : realTime reception ≡ true) (h : realTim
 -- ---- activity
 
 -- with zeros always
-pub active-zeros : (t l : List ℕ) → run zeroDigit 14 (validTo l) ≡ true → active t l ≡ true
+pub active-zeros : (t l : List ℕ) → run zeroDigit timeLength (validTo l) ≡ true → active t l ≡ true
 unfolding active
 active-zeros t l h = rw h
 

@@ -8,6 +8,7 @@ use lib.Dec.{eqb}
 use lib.ListN.{length, take, getD}
 use lib.Seq.{getD-take}
 use borrow.Author.Tests.{not-false}
+use Rattle.theory.specs.Text.{byte}
 use Rattle.theory.specs.First.{None, none, more, choose, first}
 use Rattle.theory.specs.laws.First.{first-clear, numbered}
 use Rattle.theory.specs.laws.Same.{eqs-true}
@@ -18,13 +19,13 @@ use Rattle.texts.specs.Field.{field}
 use Rattle.fields.specs.Field.{digit, capital, blank}
 use Rattle.times.specs.laws.Moment.{within}
 use Rattle.plates.specs.Plate.{nationality}
-use Rattle.vehicles.specs.Vehicle.{L10}
+use Rattle.vehicles.specs.Vehicle.{vehicleHolds, weightHolds}
 use Rattle.columns.specs.Columns.{actor, nationalityOf}
-use Rattle.lines.specs.Rules.{L1, L2, L3, L4, L5, L6, L7, L8, L9, stateless, lineRules, lineFault, recordHolds}
+use Rattle.lines.specs.Rules.{L1, L2, L3, L4, L5, L6, L7, L8, L9, L10, stateless, lineRules, lineFault, recordHolds}
 use Rattle.lines.specs.Faultless.{Faultless}
 
 -- two capitals are no blanks
-pub stateful : (l : List ℕ) → L7 l ≡ true → stateless l ≡ false
+stateful : (l : List ℕ) → L7 l ≡ true → stateless l ≡ false
 unfolding L7 nationality stateless field
 stateful l h = go (run blank 3 (nationalityOf l)) refl
   where
@@ -38,7 +39,7 @@ stateful l h = go (run blank 3 (nationalityOf l)) refl
         let m : length f ≡ 3 = run-length blank 3 f e in
         let x : capital (getD (take 2 f) 0 0) ≡ true = all-at capital (field 1 2 f) 0 (run-all capital 2 (field 1 2 f) c) (omega arith) in
         let y : blank (getD f 0 0) ≡ true = all-at blank f 0 (run-all blank 3 f e) (omega arith) in
-        absurd (omega (arith, within 65 90 (getD (take 2 f) 0 0) x, within 32 32 (getD f 0 0) y, getD-take 2 f 0 0 (omega arith)))
+        absurd (omega (arith, within (byte "A") (byte "Z") (getD (take 2 f) 0 0) x, within (byte " ") (byte " ") (getD f 0 0) y, getD-take 2 f 0 0 (omega arith)))
 
 module _ (rows sender l : List ℕ) where
   pub faultless : lineFault rows sender l ≡ 0 → Faultless rows sender l
@@ -62,8 +63,10 @@ module _ (rows sender l : List ℕ) where
 
   -- it is then a record of the sender
   pub faultless-record : Faultless rows sender l → run digit 6 sender ≡ true → recordHolds l ≡ true
-  unfolding recordHolds L2
-  faultless-record f d = rw (eqs-true (actor l) sender (f .l2), d, f .l1, f .l5, f .l6, f .l7, f .l8, f .l9, f .l10)
+  unfolding recordHolds L2 L10
+  faultless-record f d =
+      let s = and-split (vehicleHolds l) (weightHolds l) (f .l10) in
+      rw (eqs-true (actor l) sender (f .l2), d, f .l1, f .l5, f .l6, f .l7, f .l8, f .l9, s .0, s .1)
 
   -- and only then
   pub faultless-none : Faultless rows sender l → lineFault rows sender l ≡ 0

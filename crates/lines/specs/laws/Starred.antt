@@ -12,7 +12,7 @@ use Rattle.texts.specs.Field.{field}
 use Rattle.numbers.specs.Number.{number, numberAfter}
 use Rattle.times.specs.Time.{daysIn, realTime}
 use Rattle.times.specs.Order.{earlier}
-use Rattle.pans.specs.Pan.{doubled, counted, luhnSum, luhn}
+use Rattle.pans.specs.Pan.{doubled, addend, luhnSum, luhn}
 use Rattle.plates.specs.Plate.{allowed, plateCharacters, separated, separator}
 use Rattle.lines.specs.End.{endOf}
 
@@ -63,5 +63,5 @@ starred =
     ∷ []
 
 pub starred-right : every starred ≡ true
-unfolding every right same starred luhn luhnSum counted doubled realTime daysIn separator separated allowed leading run all field number numberAfter endOf earlier eqs
+unfolding every right same starred luhn luhnSum addend doubled realTime daysIn separator separated allowed leading run all field number numberAfter endOf earlier eqs
 starred-right = refl

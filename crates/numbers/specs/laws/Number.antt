@@ -8,6 +8,7 @@ use native.Mathlib.Omega.{arith}
 use lib.Dec.{leb}
 use lib.ListN.{length, length-append}
 use borrow.Author.Tests.{le-leb}
+use Rattle.theory.specs.Text.{byte}
 use Rattle.theory.specs.laws.Truth.{and-both}
 use Rattle.theory.specs.Every.{all, run}
 use Rattle.theory.specs.laws.Every.{all-run, all-append}
@@ -20,23 +21,23 @@ unfolding decimal
 length-decimal zero v = refl
 length-decimal (suc k) v = simp length-append (omega (arith, length-decimal k (v / 10)))
 
-digit-is : (v : ℕ) → digit (48 + v % 10) ≡ true
-digit-is v = and-both (leb 48 (48 + v % 10)) (leb (48 + v % 10) 57) (le-leb 48 (48 + v % 10) (omega arith)) (le-leb (48 + v % 10) 57 (omega arith))
+digit-is : (v : ℕ) → digit (byte "0" + v % 10) ≡ true
+digit-is v = and-both (leb (byte "0") (byte "0" + v % 10)) (leb (byte "0" + v % 10) (byte "9")) (le-leb (byte "0") (byte "0" + v % 10) (omega arith)) (le-leb (byte "0" + v % 10) (byte "9") (omega arith))
 
 -- and each is one
-pub decimal-all : (k v : ℕ) → all digit (decimal k v) ≡ true
+decimal-all : (k v : ℕ) → all digit (decimal k v) ≡ true
 unfolding decimal all
 decimal-all zero v = refl
-decimal-all (suc k) v = all-append digit (decimal k (v / 10)) ((48 + v % 10) ∷ []) ∙ rw (decimal-all k (v / 10), digit-is v)
+decimal-all (suc k) v = all-append digit (decimal k (v / 10)) ((byte "0" + v % 10) ∷ []) ∙ rw (decimal-all k (v / 10), digit-is v)
 
 pub decimal-digits : (k v : ℕ) → run digit k (decimal k v) ≡ true
 decimal-digits k v = all-run digit k (decimal k v) (length-decimal k v) (decimal-all k v)
 
 -- a digit behind others
-number-behind : (n : ℕ) (s : List ℕ) (x : ℕ) → numberAfter n (s ++ x ∷ []) ≡ numberAfter n s * 10 + (x - 48)
+number-behind : (n : ℕ) (s : List ℕ) (x : ℕ) → numberAfter n (s ++ x ∷ []) ≡ numberAfter n s * 10 + (x - byte "0")
 unfolding numberAfter
 number-behind n [] x = refl
-number-behind n (y ∷ s) x = number-behind (n * 10 + (y - 48)) s x
+number-behind n (y ∷ s) x = number-behind (n * 10 + (y - byte "0")) s x
 
 -- written and read again
 pub number-decimal : (k v : ℕ) → v < 10 ^ k → number (decimal k v) ≡ v
@@ -44,7 +45,7 @@ unfolding number decimal numberAfter
 number-decimal zero v h = omega arith
 number-decimal (suc k) v h =
     let p : 10 ^ suc k ≡ 10 ^ k * 10 = pow-suc 10 k in
-    number-behind 0 (decimal k (v / 10)) (48 + v % 10) ∙ rw (number-decimal k (v / 10) (omega arith)) (omega arith)
+    number-behind 0 (decimal k (v / 10)) (byte "0" + v % 10) ∙ rw (number-decimal k (v / 10) (omega arith)) (omega arith)
 
 -- no two numbers that fit have the same digits
 pub decimal-one : (k v w : ℕ) → v < 10 ^ k → w < 10 ^ k → decimal k v ≡ decimal k w → v ≡ w

@@ -2,7 +2,7 @@
 use borrow.Author.Needs.{needs}
 use native.Mathlib.Omega.{arith}
 use Prim.Native.Nat.{_-_}
-use Rattle.pans.specs.Pan.{counted}
+use Rattle.pans.specs.Pan.{addend}
 use Rattle.pans.proofs.Laws.{digits-at, Summing, sum-start, sum-turn, sum-end}
 use Rattle.pans.proofs.luhn_sum.Statement.{statement}
 use Rattle.pans.proofs.luhn_sum.Tie as tie
@@ -22,17 +22,17 @@ sub-d c = (digits-at (c .before .before .before .before .args .digits .now) (c .
 cast-d : tie.Need-cast-d Inv-loop μ-loop
 cast-d c = omega (arith, (digits-at (c .before .before .before .before .args .digits .now) (c .before .before .loop .i) (c .before .before .before .before .pre) (omega arith)) .1)
 
-counted-requires : tie.Need-counted-requires Inv-loop μ-loop
-counted-requires c κs = omega (arith, (digits-at (c .before .before .before .before .args .digits .now) (c .before .before .loop .i) (c .before .before .before .before .pre) (omega arith)) .1)
+addend-requires : tie.Need-addend-requires Inv-loop μ-loop
+addend-requires c κs = omega (arith, (digits-at (c .before .before .before .before .args .digits .now) (c .before .before .loop .i) (c .before .before .before .before .pre) (omega arith)) .1)
 
 add-last-digit : tie.Need-add-last-digit Inv-loop μ-loop
-add-last-digit c = omega (arith, c .before .before .before .loop .inv .last, c .counted .ensures .1)
+add-last-digit c = omega (arith, c .before .before .before .loop .inv .last, c .addend .ensures .1)
 
 last-digit-requires : tie.Need-last-digit-requires Inv-loop μ-loop
-last-digit-requires c κs = omega (arith, c .before .before .before .loop .inv .last, c .counted .ensures .1)
+last-digit-requires c κs = omega (arith, c .before .before .before .loop .inv .last, c .addend .ensures .1)
 
 loop-again : tie.Need-loop-again Inv-loop μ-loop
-loop-again c = rw (c .last-digit .ensures) (sum-turn _ _ _ _ (c .before .before .before .before .loop .inv) (c .before .before .before .loop-test .taken) (c .before .counted .ensures .0))
+loop-again c = rw (c .last-digit .ensures) (sum-turn _ _ _ _ (c .before .before .before .before .loop .inv) (c .before .before .before .loop-test .taken) (c .before .addend .ensures .0))
 
 returns : tie.Need-returns Inv-loop μ-loop
 returns c = sum-end _ _ _ (c .before .loop .inv) (c .loop-test .left)
@@ -49,7 +49,7 @@ luhn-sum-spec =
     cast-d
     (λ c. search needs)
     (λ c. search needs)
-    counted-requires
+    addend-requires
     add-last-digit
     last-digit-requires
     (λ c. search needs)

@@ -7,7 +7,7 @@ use native.Mathlib.Omega.{arith}
 use lib.Dec.{leb}
 use lib.ListN.{length, length-take, length-drop}
 use borrow.Author.Tests.{leb-true}
-use Rattle.theory.specs.laws.Truth.{and-right, and-split, or-true}
+use Rattle.theory.specs.laws.Truth.{and-split, or-true, and-left, and-right}
 use Rattle.theory.specs.Every.{run}
 use Rattle.theory.specs.laws.Every.{run-length}
 use Rattle.texts.specs.Field.{field}
@@ -16,8 +16,8 @@ use Rattle.times.specs.Time.{realTime}
 use Rattle.times.specs.laws.Moment.{real-length}
 use Rattle.times.specs.Order.{earlier}
 use Rattle.columns.specs.Columns.{text, actor, validTo}
-use Rattle.vehicles.specs.Vehicle.{L10, tariffHolds, classHolds, emissionHolds, productHolds, engineHolds, validToHolds, separatorHolds, fieldsHold, weightHolds}
-use Rattle.vehicles.specs.laws.Parts.{l10-parts}
+use Rattle.vehicles.specs.Vehicle.{tariffHolds, classHolds, emissionHolds, productHolds, engineHolds, validToHolds, separatorHolds, fieldsHold, weightHolds, vehicleHolds}
+use Rattle.vehicles.specs.laws.Parts.{vehicle-parts}
 use Rattle.lines.specs.Rules.{L1, L5, L6, L7, L8, L9, recordHolds}
 use Rattle.lines.specs.laws.Coverage.{record-plain}
 use Rattle.lines.specs.End.{endOf, recordOf}
@@ -30,7 +30,9 @@ record-long l h = omega (arith, simp (length-take, length-drop) at (run-length p
 
 valid-in : (l : List ℕ) → recordHolds l ≡ true → validToHolds l ≡ true
 unfolding recordHolds
-valid-in l h = l10-parts l (and-right (run digit 6 (actor l) && L1 l && L5 l && L6 l && L7 l && L8 l && L9 l) (L10 l) h) .valid-holds
+valid-in l h =
+    let front : Bool = run digit 6 (actor l) && L1 l && L5 l && L6 l && L7 l && L8 l && L9 l in
+    vehicle-parts l (and-right front (vehicleHolds l) (and-left (front && vehicleHolds l) (weightHolds l) h)) .valid-holds
 
 -- the end of a time is zeros or real, as the time was
 end-real : (reception v : List ℕ) → realTime reception ≡ true → run zeroDigit 14 v || realTime v ≡ true → run zeroDigit 14 (endOf reception v) || realTime (endOf reception v) ≡ true
@@ -81,21 +83,20 @@ module _ (reception l : List ℕ) (h : recordHolds l ≡ true) (real : realTime 
         rest 117 127 (omega arith) (omega arith) (omega arith),
       )
 
-  vehicle : L10 (recordOf reception l) ≡ L10 l
-  unfolding L10 emissionHolds weightHolds
-  vehicle =
-      rw (
-        fields,
-        front 80 85 refl,
-        front 46 47 refl,
-        front 97 100 refl,
-      )
+  vehicle : vehicleHolds (recordOf reception l) ≡ vehicleHolds l
+  unfolding vehicleHolds emissionHolds
+  vehicle = rw (fields, front 80 85 refl)
+
+  weight : weightHolds (recordOf reception l) ≡ weightHolds l
+  unfolding weightHolds
+  weight = rw (front 46 47 refl, front 97 100 refl)
 
   pub record-holds : recordHolds (recordOf reception l) ≡ true
   unfolding recordHolds L1 L5 L6 L7 L8 L9
   record-holds =
       rw (
         vehicle,
+        weight,
         front 2 7 refl,
         front 14 32 refl,
         front 33 42 refl,

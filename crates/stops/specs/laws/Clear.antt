@@ -7,7 +7,7 @@ use borrow.Author.Tests.{not-false}
 use Rattle.theory.specs.First.{None, none, more, first, choose}
 use Rattle.theory.specs.laws.First.{first-clear, numbered}
 use Rattle.times.specs.Time.{realTime}
-use Rattle.issuers.specs.Rows.{rows}
+use Rattle.issuers.specs.Rows.{rowsHold}
 use Rattle.hgv.specs.Layout.{lengthHolds}
 use Rattle.frames.specs.Frames.{footerHolds, framesHold}
 use Rattle.header.specs.Header.{headerHolds}
@@ -19,7 +19,7 @@ pub record Clear (mode : ℕ) (reception register b h : List ℕ) : Type 0 where
   pub moded : modeHolds mode ≡ true
   pub received : realTime reception ≡ true
   pub ordered : inOrder register ≡ true
-  pub rowed : rows b ≡ true
+  pub rowed : rowsHold b ≡ true
   pub sized : lengthHolds h ≡ true
   pub headed : headerHolds h ≡ true
   pub versioned : versionHolds h ≡ true
@@ -40,7 +40,7 @@ module _ (mode : ℕ) (reception register b h : List ℕ) where
             moded = not-false (modeHolds mode) h₁;
             received = not-false (realTime reception) h₂;
             ordered = not-false (inOrder register) h₃;
-            rowed = not-false (rows b) h₄;
+            rowed = not-false (rowsHold b) h₄;
             sized = not-false (lengthHolds h) h₅;
             headed = not-false (headerHolds h) h₆;
             versioned = not-false (versionHolds h) h₇;

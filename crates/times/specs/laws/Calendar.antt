@@ -17,7 +17,7 @@ sum f zero = 0
 sum f (suc n) = sum f n + f (suc n)
 
 -- the days of the first m months of year y
-abbrev pub monthsTo : ℕ → ℕ → ℕ
+abbrev monthsTo : ℕ → ℕ → ℕ
 monthsTo y = sum (daysIn y)
 
 -- the days of year y
@@ -25,7 +25,7 @@ unfoldable pub yearDays : ℕ → ℕ
 yearDays y = monthsTo y 12
 
 -- the days of the first n years
-abbrev pub yearsTo : ℕ → ℕ
+abbrev yearsTo : ℕ → ℕ
 yearsTo = sum yearDays
 
 -- the days from 00010101 to a day
@@ -37,7 +37,7 @@ unfoldable pub secs : ℕ → ℕ → ℕ → ℕ → ℕ → ℕ → ℕ
 secs y m d h i s = ((days y m d * 24 + h) * 60 + i) * 60 + s
 
 -- YYYYMMDD as one number
-abbrev pub date : ℕ → ℕ → ℕ → ℕ
+abbrev date : ℕ → ℕ → ℕ → ℕ
 date y m d = (y * 100 + m) * 100 + d
 
 -- YYYYMMDDhhmmss as one number
@@ -45,7 +45,7 @@ abbrev pub stamp : ℕ → ℕ → ℕ → ℕ → ℕ → ℕ → ℕ
 stamp y m d h i s = ((date y m d * 100 + h) * 100 + i) * 100 + s
 
 -- no month has more than 31 days
-pub days-most : (y m : ℕ) → daysIn y m ≤ 31
+days-most : (y m : ℕ) → daysIn y m ≤ 31
 unfolding daysIn
 days-most y m = go (between 1 12 m) (eqb m 2) (leap y) (eqb m 4 || eqb m 6 || eqb m 9 || eqb m 11) where
   go : (a b c d : Bool) → cond a (cond b (cond c 29 28) (cond d 30 31)) 0 ≤ 31
@@ -55,12 +55,12 @@ days-most y m = go (between 1 12 m) (eqb m 2) (leap y) (eqb m 4 || eqb m 6 || eq
   go true false c false = omega arith
   go false b c d = omega arith
 
-pub sum-step : (f : ℕ → ℕ) (n : ℕ) → 1 ≤ n → sum f n ≡ sum f (n - 1) + f n
+sum-step : (f : ℕ → ℕ) (n : ℕ) → 1 ≤ n → sum f n ≡ sum f (n - 1) + f n
 unfolding sum
 sum-step f zero h = absurd (omega arith)
 sum-step f (suc n) h = let e : suc n - 1 ≡ n = omega arith in rw e
 
-pub sum-grows : (f : ℕ → ℕ) (m n : ℕ) → m ≤ n → sum f m ≤ sum f n
+sum-grows : (f : ℕ → ℕ) (m n : ℕ) → m ≤ n → sum f m ≤ sum f n
 unfolding sum
 sum-grows f m n h = let e : m + (n - m) ≡ n = omega arith in rw e at (go (n - m)) where
   go : (k : ℕ) → sum f m ≤ sum f (m + k)

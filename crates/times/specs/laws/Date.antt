@@ -2,35 +2,22 @@
 use mathlib.Core.Path.{_≡_, refl, sym, ap₂, _∙_}
 use mathlib.Core.Bool.{Bool, true, false, _&&_, and-true}
 use mathlib.Core.List.{List, _++_}
-use Prim.Native.Nat.{ℕ, _+_, _-_, _≤_}
+use Prim.Native.Nat.{ℕ, _+_, _-_}
 use native.Mathlib.Omega.{arith}
 use lib.Dec.{eqb}
-use lib.ListN.{length, drop, length-append, length-drop}
-use lib.Seq.{take-append-le, drop-append-le, drop-append-add}
+use lib.ListN.{length, length-append}
 use borrow.Author.Tests.{eqb-true, eq-eqb}
 use Rattle.theory.specs.Text.{bytes}
 use Rattle.theory.specs.laws.Truth.{and-left, same-truth}
 use Rattle.theory.specs.Every.{all, run}
 use Rattle.theory.specs.laws.Every.{all-append}
+use Rattle.sizes.specs.Sizes.{timeLength}
 use Rattle.texts.specs.Field.{field}
+use Rattle.texts.specs.laws.Field.{field-before, field-behind}
 use Rattle.fields.specs.Field.{digit}
 use Rattle.numbers.specs.Number.{number, numberAfter}
 use Rattle.times.specs.Time.{year, month, day, hour, minute, second, realDay, realClock, realMoment, realTime, realDate}
 use Rattle.times.specs.laws.Moment.{real-all, real-numbers}
-
--- a field of two texts in one lies in the first, or in the second
-module _ (s t : List ℕ) (from to : ℕ) where
-  field-front : (1 ≤ from) × ((from ≤ to) × (to ≤ length s)) → field from to (s ++ t) ≡ field from to s
-  unfolding field
-  field-front h =
-      rw (drop-append-le (from - 1) s t (omega arith), take-append-le (to + 1 - from) (drop (from - 1) s) t (rw length-drop (omega arith)))
-
-  field-behind : 1 ≤ from → (n : ℕ) → length s ≡ n → field (n + from) (n + to) (s ++ t) ≡ field from to t
-  unfolding field
-  field-behind h n e =
-      let start : n + from - 1 ≡ length s + (from - 1) = omega arith in
-      let wide : n + to + 1 - (n + from) ≡ to + 1 - from = omega arith in
-      rw (start, wide, drop-append-add)
 
 abbrev midnight : List ℕ
 midnight = bytes "000000"
@@ -40,27 +27,27 @@ unfolding field number numberAfter
 midnight-clock = refl
 
 module _ (d : List ℕ) where
-  date-digits : run digit 14 (d ++ midnight) ≡ run digit 8 d
+  date-digits : run digit timeLength (d ++ midnight) ≡ run digit 8 d
   unfolding run all
   date-digits =
       ap₂ _&&_
-      (same-truth (eqb (length (d ++ midnight)) 14) (eqb (length d) 8)
-      (λ e. eq-eqb (length d) 8 (omega (arith, length-append d midnight, eqb-true (length (d ++ midnight)) 14 e)))
-      (λ e. eq-eqb (length (d ++ midnight)) 14 (omega (arith, length-append d midnight, eqb-true (length d) 8 e))))
+      (same-truth (eqb (length (d ++ midnight)) timeLength) (eqb (length d) 8)
+      (λ e. eq-eqb (length d) 8 (omega (arith, length-append d midnight, eqb-true (length (d ++ midnight)) timeLength e)))
+      (λ e. eq-eqb (length (d ++ midnight)) timeLength (omega (arith, length-append d midnight, eqb-true (length d) 8 e))))
       (all-append digit d midnight ∙ and-true (all digit d))
 
   -- the day stands in the first eight bytes
   date-day : (c : List ℕ) → length d ≡ 8 → realDay (year (d ++ c)) (month (d ++ c)) (day (d ++ c)) ≡ realDay (year d) (month d) (day d)
   date-day c l =
       rw (
-        field-front d c 1 4 (omega arith, (omega arith, omega arith)),
-        field-front d c 5 6 (omega arith, (omega arith, omega arith)),
-        field-front d c 7 8 (omega arith, (omega arith, omega arith)),
+        field-before 1 4 d c (omega arith) (omega arith) (omega arith),
+        field-before 5 6 d c (omega arith) (omega arith) (omega arith),
+        field-before 7 8 d c (omega arith) (omega arith) (omega arith),
       )
 
   date-clock : length d ≡ 8 → realClock (hour (d ++ midnight)) (minute (d ++ midnight)) (second (d ++ midnight)) ≡ true
   date-clock l =
-      rw (field-behind d midnight 1 2 (omega arith) 8 l, field-behind d midnight 3 4 (omega arith) 8 l, field-behind d midnight 5 6 (omega arith) 8 l) midnight-clock
+      rw (field-behind 9 10 8 d midnight l (omega arith), field-behind 11 12 8 d midnight l (omega arith), field-behind 13 14 8 d midnight l (omega arith)) midnight-clock
 
   pub date-is : realDate d ≡ run digit 8 d && realDay (year d) (month d) (day d)
   unfolding realDate realTime run

@@ -9,6 +9,7 @@ use lib.ListN.{length}
 use borrow.Author.Tests.{eqb-true, leb-true}
 use Rattle.theory.specs.laws.Truth.{and-left, and-right}
 use Rattle.theory.specs.Every.{all, run}
+use Rattle.sizes.specs.Sizes.{timeLength}
 use Rattle.fields.specs.Field.{between, digit}
 use Rattle.times.specs.Time.{leap, daysIn, year, month, day, hour, minute, second, realDay, realClock, realMoment, realTime}
 
@@ -32,7 +33,7 @@ month-is y m = go (between 1 12 m) refl (cond (eqb m 2) (cond (leap y) 29 28) (c
   go true e n h = within 1 12 m e
   go false e n h = absurd (omega arith)
 
-pub moment : (y m d h i s : ℕ) → realMoment y m d h i s ≡ true → Moment y m d h i s
+moment : (y m d h i s : ℕ) → realMoment y m d h i s ≡ true → Moment y m d h i s
 moment y m d h i s e =
     let day-true : realDay y m d ≡ true = and-left (realDay y m d) (realClock h i s) e in
     let clock-true : realClock h i s ≡ true = and-right (realDay y m d) (realClock h i s) e in
@@ -48,21 +49,21 @@ moment y m d h i s e =
     }
 
 module _ (t : List ℕ) (real : realTime t ≡ true) where
-  real-digits : run digit 14 t ≡ true
+  real-digits : run digit timeLength t ≡ true
   unfolding realTime
-  real-digits = and-left (run digit 14 t) (realMoment (year t) (month t) (day t) (hour t) (minute t) (second t)) real
+  real-digits = and-left (run digit timeLength t) (realMoment (year t) (month t) (day t) (hour t) (minute t) (second t)) real
 
-  pub real-length : length t ≡ 14
+  pub real-length : length t ≡ timeLength
   unfolding run
-  real-length = eqb-true (length t) 14 (and-left (eqb (length t) 14) (all digit t) real-digits)
+  real-length = eqb-true (length t) timeLength (and-left (eqb (length t) timeLength) (all digit t) real-digits)
 
   pub real-all : all digit t ≡ true
   unfolding run
-  real-all = and-right (eqb (length t) 14) (all digit t) real-digits
+  real-all = and-right (eqb (length t) timeLength) (all digit t) real-digits
 
   pub real-numbers : realMoment (year t) (month t) (day t) (hour t) (minute t) (second t) ≡ true
   unfolding realTime
-  real-numbers = and-right (run digit 14 t) (realMoment (year t) (month t) (day t) (hour t) (minute t) (second t)) real
+  real-numbers = and-right (run digit timeLength t) (realMoment (year t) (month t) (day t) (hour t) (minute t) (second t)) real
 
   pub real-moment : Moment (year t) (month t) (day t) (hour t) (minute t) (second t)
   real-moment = moment (year t) (month t) (day t) (hour t) (minute t) (second t) real-numbers

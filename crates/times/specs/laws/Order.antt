@@ -8,8 +8,10 @@ use lib.Dec.{eqb, ltb}
 use lib.ListN.{length, take, drop, length-take, length-drop, drop-of-length-le}
 use lib.Seq.{drop-drop}
 use borrow.Author.Tests.{eqb-true, ltb-true, ltb-false, eq-eqb, lt-ltb, le-ltb}
+use Rattle.theory.specs.Text.{byte}
 use Rattle.theory.specs.laws.Truth.{and-left, and-right, or-left, or-right}
 use Rattle.theory.specs.Every.{all}
+use Rattle.sizes.specs.Sizes.{timeLength}
 use Rattle.texts.specs.Field.{field}
 use Rattle.fields.specs.Field.{digit}
 use Rattle.numbers.specs.Number.{number, numberAfter}
@@ -23,7 +25,7 @@ unfoldable pub seconds : List ℕ → ℕ
 seconds t = secs (year t) (month t) (day t) (hour t) (minute t) (second t)
 
 -- two texts of which neither is earlier are one
-pub neither : (a b : List ℕ) → earlier a b ≡ false → earlier b a ≡ false → a ≡ b
+neither : (a b : List ℕ) → earlier a b ≡ false → earlier b a ≡ false → a ≡ b
 unfolding earlier
 neither [] [] h k = refl
 neither [] (y ∷ b) h k = absurd (true≢false h)
@@ -41,7 +43,7 @@ neither (x ∷ a) (y ∷ b) h k =
 -- two texts of digits of one length
 data Digits : List ℕ → List ℕ → Type 0 where
   none : Digits [] []
-  more : {x y : ℕ} {a b : List ℕ} → (48 ≤ x) × (x ≤ 57) → (48 ≤ y) × (y ≤ 57) → Digits a b → Digits (x ∷ a) (y ∷ b)
+  more : {x y : ℕ} {a b : List ℕ} → (byte "0" ≤ x) × (x ≤ byte "9") → (byte "0" ≤ y) × (y ≤ byte "9") → Digits a b → Digits (x ∷ a) (y ∷ b)
 
 digits : (a b : List ℕ) → length a ≡ length b → all digit a ≡ true → all digit b ≡ true → Digits a b
 unfolding all
@@ -49,31 +51,31 @@ digits [] [] l h k = none
 digits [] (y ∷ b) l h k = absurd (omega arith)
 digits (x ∷ a) [] l h k = absurd (omega arith)
 digits (x ∷ a) (y ∷ b) l h k =
-    more (within 48 57 x (and-left (digit x) (all digit a) h)) (within 48 57 y (and-left (digit y) (all digit b) k))
+    more (within (byte "0") (byte "9") x (and-left (digit x) (all digit a) h)) (within (byte "0") (byte "9") y (and-left (digit y) (all digit b) k))
     (digits a b (omega arith) (and-right (digit x) (all digit a) h) (and-right (digit y) (all digit b) k))
 
 -- digits behind a smaller number write a smaller number
 number-less : {a b : List ℕ} → Digits a b → (m n : ℕ) → m < n → numberAfter m a < numberAfter n b
 unfolding numberAfter
 number-less none m n h = h
-number-less (more {x} {y} dx dy p) m n h = number-less p (m * 10 + (x - 48)) (n * 10 + (y - 48)) (omega arith)
+number-less (more {x} {y} dx dy p) m n h = number-less p (m * 10 + (x - byte "0")) (n * 10 + (y - byte "0")) (omega arith)
 
 number-earlier : {a b : List ℕ} → Digits a b → (n : ℕ) → earlier a b ≡ true → numberAfter n a < numberAfter n b
 unfolding earlier numberAfter
 number-earlier none n e = absurd (false≢true e)
-number-earlier (more {x} {y} {a} {b} dx dy p) n e = go (ltb x y) refl e (number-earlier p (n * 10 + (y - 48))) where
+number-earlier (more {x} {y} {a} {b} dx dy p) n e = go (ltb x y) refl e (number-earlier p (n * 10 + (y - byte "0"))) where
   go : (t : Bool) → ltb x y ≡ t → t || eqb x y && earlier a b ≡ true
-      → (earlier a b ≡ true → numberAfter (n * 10 + (y - 48)) a < numberAfter (n * 10 + (y - 48)) b) → numberAfter (n * 10 + (x - 48)) a < numberAfter (n * 10 + (y - 48)) b
-  go true f g ih = number-less p (n * 10 + (x - 48)) (n * 10 + (y - 48)) (omega (arith, ltb-true x y f))
+      → (earlier a b ≡ true → numberAfter (n * 10 + (y - byte "0")) a < numberAfter (n * 10 + (y - byte "0")) b) → numberAfter (n * 10 + (x - byte "0")) a < numberAfter (n * 10 + (y - byte "0")) b
+  go true f g ih = number-less p (n * 10 + (x - byte "0")) (n * 10 + (y - byte "0")) (omega (arith, ltb-true x y f))
   go false f g ih = rw (eqb-true x y (and-left (eqb x y) (earlier a b) g)) (ih (and-right (eqb x y) (earlier a b) g))
 
--- ---- the number that all 14 digits of a time write
+-- ---- the number that all digits of a time write
 
 number-split : (k n : ℕ) (s : List ℕ) → numberAfter n s ≡ numberAfter (numberAfter n (take k s)) (drop k s)
 unfolding numberAfter
 number-split zero n s = refl
 number-split (suc k) n [] = refl
-number-split (suc k) n (x ∷ s) = number-split k (n * 10 + (x - 48)) s
+number-split (suc k) n (x ∷ s) = number-split k (n * 10 + (x - byte "0")) s
 
 two-digits : (n : ℕ) (s : List ℕ) → length s ≡ 2 → numberAfter n s ≡ n * 100 + number s
 unfolding number numberAfter
@@ -96,11 +98,11 @@ module _ (t : List ℕ) where
   unfolding number field
   number-year = number-split 4 0 t
 
-  number-end : (n : ℕ) → length t ≡ 14 → numberAfter n (drop 14 t) ≡ n
+  number-end : (n : ℕ) → length t ≡ timeLength → numberAfter n (drop timeLength t) ≡ n
   unfolding numberAfter
-  number-end n h = let k : length t ≤ 14 = omega arith in rw (drop-of-length-le t k)
+  number-end n h = let k : length t ≤ timeLength = omega arith in rw (drop-of-length-le t k)
 
-  number-stamp : length t ≡ 14 → number t ≡ stamp (year t) (month t) (day t) (hour t) (minute t) (second t)
+  number-stamp : length t ≡ timeLength → number t ≡ stamp (year t) (month t) (day t) (hour t) (minute t) (second t)
   number-stamp h =
       number-year
       ∙ number-two 4 _ (omega arith)

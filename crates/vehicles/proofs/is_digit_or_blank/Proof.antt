@@ -4,7 +4,7 @@ use Rattle.vehicles.proofs.is_digit_or_blank.Statement.{statement}
 use Rattle.vehicles.proofs.is_digit_or_blank.Tie as tie
 
 returns : tie.Need-returns
-returns c = cc
+returns c = rw (c .is-blanks .ensures, c .before .is-digits .ensures)
 
 pub is-digit-or-blank-spec : {M : Type 1} → statement M
 is-digit-or-blank-spec =

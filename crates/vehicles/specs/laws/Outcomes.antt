@@ -1,10 +1,13 @@
--- Two outcomes of one call are one, for the public function of this crate. Assumes nothing.
+-- Two outcomes of one call are one, for each public function of this crate. Assumes nothing.
 use mathlib.Core.Path.{_≡_}
 use mathlib.Core.Bool.{Bool}
 use mathlib.Core.List.{List}
 use Prim.Native.Nat.{ℕ}
 use Rattle.theory.specs.laws.Outcome.{one-outcome}
-use Rattle.vehicles.specs.Promises.{HoldsL10}
+use Rattle.vehicles.specs.Promises.{HoldsVehicle, HoldsWeight}
 
-pub holds-l10-one : (l : List ℕ) (r s : Bool) → HoldsL10 l r → HoldsL10 l s → r ≡ s
-holds-l10-one l r s = one-outcome
+pub holds-vehicle-one : (l : List ℕ) (r s : Bool) → HoldsVehicle l r → HoldsVehicle l s → r ≡ s
+holds-vehicle-one l r s = one-outcome
+
+pub holds-weight-one : (l : List ℕ) (r s : Bool) → HoldsWeight l r → HoldsWeight l s → r ≡ s
+holds-weight-one l r s = one-outcome

@@ -3,15 +3,15 @@ use borrow.Author.Needs.{needs}
 use native.Mathlib.Omega.{arith}
 use Rattle.texts.specs.Field.{field}
 use Rattle.texts.specs.laws.Field.{field-short}
-use Rattle.issuers.specs.Rows.{beginning}
-use Rattle.issuers.proofs.is_beginning.Statement.{statement}
-use Rattle.issuers.proofs.is_beginning.Tie as tie
+use Rattle.issuers.specs.Rows.{rowBegins}
+use Rattle.issuers.proofs.row_begins.Statement.{statement}
+use Rattle.issuers.proofs.row_begins.Tie as tie
 
 number-requires : tie.Need-number-requires
 number-requires c κs = field-short _ _ 15 _ _ (c .field .ensures) (omega arith)
 
 returns : tie.Need-returns
-unfolding beginning
+unfolding rowBegins
 returns c =
     rw (
       c .same .ensures,
@@ -23,8 +23,8 @@ returns c =
       c .before .before .before .before .before .before .field .ensures,
     )
 
-pub is-beginning-spec : {M : Type 1} → statement M
-is-beginning-spec =
+pub row-begins-spec : {M : Type 1} → statement M
+row-begins-spec =
     tie.close
     (tie.spec
     (λ c κs. search needs)

@@ -3,8 +3,8 @@ use borrow.Author.Needs.{needs}
 use native.Mathlib.Omega.{arith}
 use Rattle.texts.specs.laws.Field.{field-short}
 use Rattle.vehicles.specs.Vehicle.{weightHolds}
-use Rattle.vehicles.proofs.has_light_weight.Statement.{statement}
-use Rattle.vehicles.proofs.has_light_weight.Tie as tie
+use Rattle.vehicles.proofs.holds_weight.Statement.{statement}
+use Rattle.vehicles.proofs.holds_weight.Tie as tie
 
 number-requires : tie.Need-number-requires
 number-requires c κs = field-short _ _ 15 _ _ (c .field2 .ensures) (omega arith)
@@ -19,8 +19,8 @@ returns c =
       c .before .before .before .before .field .ensures,
     )
 
-pub has-light-weight-spec : {M : Type 1} → statement M
-has-light-weight-spec =
+pub holds-weight-spec : {M : Type 1} → statement M
+holds-weight-spec =
     tie.close
     (tie.spec
     (λ c κs. search needs)
