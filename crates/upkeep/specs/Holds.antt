@@ -5,7 +5,9 @@ use mathlib.Core.List.{List}
 use Prim.Native.Nat.{ℕ}
 use Rattle.theory.specs.Join.{flat}
 use Rattle.theory.specs.Pad.{pad}
-use Rattle.register.specs.Register.{slotLength, slotsIn, records, inOrder}
+use Rattle.sizes.specs.Sizes.{slotLength}
+use Rattle.slots.specs.Slots.{slotsIn, records}
+use Rattle.register.specs.Register.{inOrder}
 
 -- b has n slots, is in order and holds the records R
 pub record Holds (n : ℕ) (R : List (List ℕ)) (b : List ℕ) : Type 0 where
