@@ -28,9 +28,11 @@ use Rattle.columns.specs.Columns.{panOf}
 use Rattle.lines.specs.Rules.{recordHolds}
 use Rattle.lines.specs.End.{recordOf}
 use Rattle.records.specs.Slot.{putRecord}
-use Rattle.register.specs.Register.{slotLength, slotsMost, slotsIn, slotsOf, records, usedIn, usedPart}
-use Rattle.register.specs.Search.{holdsPan, placeOf}
-use Rattle.register.specs.laws.Register.{ordered, used-most, used-fits, used-slots, slots-used}
+use Rattle.sizes.specs.Sizes.{slotLength, slotsMost}
+use Rattle.slots.specs.Slots.{slotsIn, slotsOf, records, usedIn, usedPart}
+use Rattle.slots.specs.Search.{holdsPan, placeOf}
+use Rattle.slots.specs.laws.Slots.{used-most, used-fits, used-slots, slots-used}
+use Rattle.register.specs.laws.Register.{ordered}
 use Rattle.holdings.specs.Holdings.{stored, storedAll, isFull, holdings}
 use Rattle.holdings.specs.AtOnce.{placesIn}
 use Rattle.holdings.specs.laws.Storing.{stored-held, stored-new, all-grows, new-others}

@@ -9,7 +9,7 @@ use Rattle.theory.specs.Distinct.{distinct}
 use Rattle.times.specs.Time.{realTime}
 use Rattle.columns.specs.Columns.{panOf}
 use Rattle.lines.specs.Rules.{recordHolds}
-use Rattle.register.specs.Search.{heldByAnother}
+use Rattle.slots.specs.Search.{heldByAnother}
 use Rattle.holdings.specs.Holdings.{holdings}
 
 -- the lines ls of the sender `who`, for a register of so many slots that holds the records R

@@ -12,8 +12,10 @@ ghost use Rattle.theory.specs.Pick.{good};
 ghost use Rattle.columns.specs.Columns.{panOf};
 ghost use Rattle.lines.specs.End.{recordOf};
 ghost use Rattle.hgv.specs.Layout.{lineLength};
-ghost use Rattle.register.specs.Register.{slotLength, slotsMost, slotsIn, records, usedIn, inOrder};
-ghost use Rattle.register.specs.Search.{placeOf};
+ghost use Rattle.sizes.specs.Sizes.{slotLength, slotsMost};
+ghost use Rattle.slots.specs.Slots.{slotsIn, records, usedIn};
+ghost use Rattle.register.specs.Register.{inOrder};
+ghost use Rattle.slots.specs.Search.{placeOf};
 ghost use Rattle.holdings.specs.Holdings.{takenIn, stored, others, isFull};
 ghost use Rattle.holdings.specs.AtOnce.{placesIn};
 ghost use Rattle.applying.specs.Fit.{Fit};
@@ -72,7 +74,7 @@ fn slot_for(
     if i < found.len() {
         return place_or_next(holdings::place_at(found, i), first, used);
     }
-    register::find(used_of(register, used), pan)
+    slots::find(used_of(register, used), pan)
 }
 
 // A line's record in the slot that has its PAN, or in the next free one; how many slots are used then.
@@ -223,7 +225,7 @@ fn remove_all(register: &mut [u8], who: &[u8]) -> usize
     requires { ⌜ inOrder (now register) ≡ true ⌝ }
     ensures { λ r. ⌜ Left (slotsIn (now (register .entry))) (others (now (who .entry)) (records (now (register .entry)))) (now (register .exit)) r ⌝ }
 {
-    let used = register::used_slots(register);
+    let used = slots::used_slots(register);
     let mut marks = [0u8; SLOTS];
     remove_marked(register, who, &mut marks[..used])
 }
@@ -236,7 +238,7 @@ fn prepare(mode: u64, register: &mut [u8], who: &[u8]) -> usize
     if mode == FULL {
         return remove_all(register, who);
     }
-    register::used_slots(register)
+    slots::used_slots(register)
 }
 
 // The lines whose verdict is 0, of this sender and received at `reception`, applied to a register in order: mode 1 is

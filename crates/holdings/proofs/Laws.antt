@@ -19,9 +19,10 @@ use Rattle.theory.specs.Tally.{tally}
 use Rattle.theory.specs.laws.Tally.{tally-pick, tallies}
 use Rattle.theory.specs.laws.Place.{place-some}
 use Rattle.columns.specs.Columns.{panOf}
-use Rattle.register.specs.Register.{slotLength, slotsMost, slotsIn, slotsOf, records, usedIn, usedPart}
-use Rattle.register.specs.laws.Register.{used-slots, slots-used}
-use Rattle.register.specs.Search.{holdsPan, placeOf, ofActor, countOf}
+use Rattle.sizes.specs.Sizes.{slotLength, slotsMost}
+use Rattle.slots.specs.Slots.{slotsIn, slotsOf, records, usedIn, usedPart}
+use Rattle.slots.specs.laws.Slots.{used-slots, slots-used}
+use Rattle.slots.specs.Search.{holdsPan, placeOf, ofActor, countOf}
 use Rattle.holdings.specs.Holdings.{others, isFull}
 use Rattle.holdings.specs.Room.{isNew, usedAfter}
 use Rattle.holdings.specs.AtOnce.{atOnce}

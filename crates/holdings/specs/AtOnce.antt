@@ -6,7 +6,7 @@ use lib.Dec.{leb}
 use Rattle.theory.specs.Table.{tableOf}
 use Rattle.columns.specs.Columns.{panOf}
 use Rattle.hgv.specs.Layout.{lineLength}
-use Rattle.register.specs.Register.{slotsMost}
+use Rattle.sizes.specs.Sizes.{slotsMost}
 use Rattle.ordering.specs.Places.{placeFor}
 
 -- of the first m lines with these verdicts, where the PAN of each that was taken stands among the records R

@@ -11,7 +11,7 @@ use Rattle.theory.specs.Pick.{good, pick}
 use Rattle.columns.specs.Columns.{panOf}
 use Rattle.lines.specs.End.{recordOf}
 use Rattle.hgv.specs.Layout.{lineLength}
-use Rattle.register.specs.Search.{holdsPan, ofActor}
+use Rattle.slots.specs.Search.{holdsPan, ofActor}
 
 -- the lines that were taken: those whose verdict is 0
 abbrev pub takenIn : List ℕ → List ℕ → List (List ℕ)

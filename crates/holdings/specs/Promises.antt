@@ -3,7 +3,7 @@ use mathlib.Core.Path.{_≡_}
 use mathlib.Core.List.{List}
 use Prim.Native.Nat.{ℕ}
 use lib.ListN.{getD, length}
-use Rattle.register.specs.Register.{slotsOf, records}
+use Rattle.slots.specs.Slots.{slotsOf, records}
 use Rattle.holdings.specs.Holdings.{takenIn}
 use Rattle.holdings.specs.Room.{usedAfter}
 use Rattle.holdings.specs.AtOnce.{placesIn, atOnce}

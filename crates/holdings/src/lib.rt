@@ -7,8 +7,9 @@ ghost use Rattle.theory.specs.Count.{bump};
 ghost use Rattle.theory.specs.Pick.{good};
 ghost use Rattle.hgv.specs.Layout.{lineLength};
 ghost use Rattle.columns.specs.Columns.{panOf};
-ghost use Rattle.register.specs.Register.{slotsMost, slotsIn, slotsOf};
-ghost use Rattle.register.specs.Search.{placeOf};
+ghost use Rattle.sizes.specs.Sizes.{slotsMost};
+ghost use Rattle.slots.specs.Slots.{slotsIn, slotsOf};
+ghost use Rattle.slots.specs.Search.{placeOf};
 ghost use Rattle.holdings.specs.Room.{isNew};
 ghost use Rattle.holdings.specs.laws.Room.{CountsNew};
 ghost use Rattle.holdings.specs.laws.AtOnce.{Told};
@@ -75,7 +76,7 @@ fn place_of(held: &[u8], l: &[u8], found: &[u16], i: usize) -> usize
     if i < found.len() {
         return place_at(found, i);
     }
-    register::find(held, texts::field(l, columns::PAN_FROM, columns::PAN_TO))
+    slots::find(held, texts::field(l, columns::PAN_FROM, columns::PAN_TO))
 }
 
 // Counts a line that was taken, and whose PAN none of the slots has.
@@ -131,10 +132,10 @@ pub fn used_after(mode: u64, register: &[u8], who: &[u8], lines: &[u8], verdicts
     requires { ⌜ length (now verdicts) * lineLength ≤ length (now lines) ⌝ }
     ensures { λ r. ⌜ UsedAfter mode (now (register .entry)) (now (who .entry)) (now (lines .entry)) (now (verdicts .entry)) r ⌝ }
 {
-    let held = register::used_part(register);
+    let held = slots::used_part(register);
     let used = held.len() / SLOT;
     if mode == FULL {
-        let others = used - register::count_of(held, who);
+        let others = used - slots::count_of(held, who);
         return others + verdicts::count_taken(verdicts) as usize;
     }
     used + count_new(held, lines, verdicts)

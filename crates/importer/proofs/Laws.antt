@@ -14,7 +14,8 @@ use Rattle.theory.specs.laws.Tally.{tallies}
 use Rattle.header.specs.Header.{sender}
 use Rattle.times.specs.laws.Moment.{real-length}
 use Rattle.hgv.specs.Layout.{lineLength, linesMost, linesIn, lengthHolds, body}
-use Rattle.register.specs.Register.{records, slotsIn, inOrder}
+use Rattle.slots.specs.Slots.{records, slotsIn}
+use Rattle.register.specs.Register.{inOrder}
 use Rattle.upkeep.specs.Holds.{Holds}
 use Rattle.verdicts.specs.Verdict.{taken}
 use Rattle.hgc.specs.Confirmation.{confirmation, confirmationLength}

@@ -11,7 +11,8 @@ use Rattle.theory.specs.Pad.{pad}
 use Rattle.theory.specs.Pick.{good, bad}
 use Rattle.theory.specs.Tally.{tally}
 use Rattle.header.specs.Header.{sender}
-use Rattle.register.specs.Register.{slotLength, slotsIn, records}
+use Rattle.sizes.specs.Sizes.{slotLength}
+use Rattle.slots.specs.Slots.{slotsIn, records}
 use Rattle.verdicts.specs.Verdict.{fileVerdicts, taken}
 use Rattle.hgc.specs.Confirmation.{confirmation}
 use Rattle.holdings.specs.Holdings.{holdings}

@@ -15,7 +15,8 @@ use Rattle.theory.specs.Tally.{tally}
 use Rattle.header.specs.Header.{sender}
 use Rattle.hgv.specs.Layout.{lineLength, linesMost, linesIn, body, linesOf}
 use Rattle.hgv.specs.laws.Layout.{lines-room, lines-most}
-use Rattle.register.specs.Register.{slotsIn, records, inOrder}
+use Rattle.slots.specs.Slots.{slotsIn, records}
+use Rattle.register.specs.Register.{inOrder}
 use Rattle.holdings.specs.Holdings.{holdings}
 use Rattle.holdings.specs.Room.{usedAfter}
 use Rattle.upkeep.specs.Holds.{Holds}

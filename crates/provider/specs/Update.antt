@@ -14,8 +14,10 @@ use Rattle.hgv.specs.Layout.{lengthHolds}
 use Rattle.frames.specs.Frames.{footerHolds, framesHold}
 use Rattle.header.specs.Header.{sender, headerHolds}
 use Rattle.claims.specs.Claims.{versionHolds, receiverHolds, countHolds}
-use Rattle.register.specs.Register.{slotLength, slotsIn, records, inOrder}
-use Rattle.register.specs.Search.{ofActor}
+use Rattle.sizes.specs.Sizes.{slotLength}
+use Rattle.slots.specs.Slots.{slotsIn, records}
+use Rattle.register.specs.Register.{inOrder}
+use Rattle.slots.specs.Search.{ofActor}
 use Rattle.holdings.specs.Holdings.{holdings}
 use Rattle.stops.specs.Stops.{modeHolds, notFull}
 use Rattle.receipts.specs.Receipt.{receptionOf, takenBy, receiptHolds}

@@ -13,7 +13,7 @@ use Rattle.theory.specs.Pick.{good}
 use Rattle.theory.specs.laws.Among.{good-is}
 use Rattle.columns.specs.Columns.{panOf}
 use Rattle.lines.specs.Rules.{lineRules, lineFault}
-use Rattle.register.specs.Search.{holdsPan, heldByAnother}
+use Rattle.slots.specs.Search.{holdsPan, heldByAnother}
 use Rattle.verdicts.specs.Verdict.{ownRules, verdict}
 use Rattle.verdicts.specs.laws.Verdict.{own-is, verdict-is}
 

@@ -7,8 +7,8 @@ use Rattle.theory.specs.Parts.{chop}
 use Rattle.theory.specs.Walk.{some}
 use Rattle.theory.specs.Pick.{good, pick}
 use Rattle.theory.specs.Tally.{tally}
-use Rattle.register.specs.Search.{holdsPan}
-use Rattle.register.specs.Register.{records}
+use Rattle.slots.specs.Search.{holdsPan}
+use Rattle.slots.specs.Slots.{records}
 use Rattle.hgv.specs.Layout.{lineLength}
 use Rattle.verdicts.specs.Verdict.{fileVerdicts}
 

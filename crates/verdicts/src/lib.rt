@@ -6,7 +6,7 @@ ghost use lib.ListN.{length};
 ghost use Rattle.theory.specs.First.{first};
 ghost use Rattle.theory.specs.Parts.{chop, partAt};
 ghost use Rattle.theory.specs.Pick.{good, pick};
-ghost use Rattle.register.specs.Register.{slotsOf};
+ghost use Rattle.slots.specs.Slots.{slotsOf};
 ghost use Rattle.hgv.specs.Layout.{lineLength, linesIn};
 ghost use Rattle.verdicts.specs.Verdict.{ownRules, verdict, verdictsOf};
 ghost use Rattle.verdicts.specs.Promises.{IsNamed, Judge, CountTaken};
@@ -39,7 +39,7 @@ fn own_fault(l: &[u8], sender: &[u8], rows: &[u8], held: &[u8]) -> u8
         return fault as u8;
     }
     let pan = texts::field(l, columns::PAN_FROM, columns::PAN_TO);
-    if register::is_held_by_another(held, pan, sender) {
+    if slots::is_held_by_another(held, pan, sender) {
         return 4;
     }
     0
@@ -89,7 +89,7 @@ pub fn judge(hgv: &[u8], rows: &[u8], register: &[u8], verdicts: &mut [u8])
 {
     let lines = hgv::body(hgv);
     let sender = header::sender(hgv);
-    judge_lines(lines, sender, rows, register::used_part(register), verdicts);
+    judge_lines(lines, sender, rows, slots::used_part(register), verdicts);
 }
 
 // How many of them are 0.

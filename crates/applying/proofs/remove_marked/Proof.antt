@@ -1,6 +1,6 @@
 -- Assumes nothing.
 use mathlib.Core.Path.{sym}
-use Rattle.register.specs.laws.Register.{used-fits}
+use Rattle.slots.specs.laws.Slots.{used-fits}
 use lib.Seq.{length-take-le}
 use Rattle.applying.proofs.Removing.{marks-fit, removed}
 use borrow.Author.Needs.{needs}

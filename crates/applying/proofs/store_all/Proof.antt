@@ -2,7 +2,7 @@
 use Prim.Native.Nat.{_≤_, _-_}
 use Rattle.holdings.specs.Holdings.{storedAll}
 use Rattle.lines.specs.End.{recordOf}
-use Rattle.register.specs.Register.{records, slotsIn}
+use Rattle.slots.specs.Slots.{records, slotsIn}
 use Rattle.theory.specs.laws.Among.{takenFrom}
 use Rattle.theory.specs.First.{first}
 use Rattle.theory.specs.Parts.{chop}

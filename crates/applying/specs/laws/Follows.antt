@@ -21,8 +21,10 @@ use Rattle.times.specs.Time.{realTime}
 use Rattle.columns.specs.Columns.{panOf}
 use Rattle.lines.specs.Rules.{recordHolds}
 use Rattle.lines.specs.End.{recordOf}
-use Rattle.register.specs.Register.{slotLength, slotsIn, records, inOrder}
-use Rattle.register.specs.Search.{holdsPan, placeOf, ofActor}
+use Rattle.sizes.specs.Sizes.{slotLength}
+use Rattle.slots.specs.Slots.{slotsIn, records}
+use Rattle.register.specs.Register.{inOrder}
+use Rattle.slots.specs.Search.{holdsPan, placeOf, ofActor}
 use Rattle.holdings.specs.Holdings.{stored, storedAll, others, holdings, isFull}
 use Rattle.holdings.specs.laws.Storing.{stored-held, stored-new, all-grows}
 use Rattle.upkeep.specs.Holds.{Holds}

@@ -11,7 +11,7 @@ use Rattle.theory.specs.laws.Each.{each-map}
 use Rattle.theory.specs.Walk.{some}
 use Rattle.columns.specs.Columns.{panOf}
 use Rattle.lines.specs.End.{recordOf}
-use Rattle.register.specs.Search.{holdsPan, ofActor, holdsForeign, heldByAnother}
+use Rattle.slots.specs.Search.{holdsPan, ofActor, holdsForeign, heldByAnother}
 use Rattle.holdings.specs.Holdings.{storedOn, stored, storedAll, others, replacedAll, isFull, holdings}
 use Rattle.holdings.specs.laws.Storing.{stored-grows, free-stored, others-all, others-replaced}
 use Rattle.applying.specs.Fit.{Fit}

@@ -21,8 +21,8 @@ use Rattle.theory.specs.laws.Distinct.{distinct-head, distinct-tail}
 use Rattle.theory.specs.laws.Among.{takenFrom, taken-start, taken-step}
 use Rattle.columns.specs.Columns.{panOf}
 use Rattle.hgv.specs.Layout.{lineLength}
-use Rattle.register.specs.Register.{slotsMost}
-use Rattle.register.specs.Search.{holdsPan, placeOf}
+use Rattle.sizes.specs.Sizes.{slotsMost}
+use Rattle.slots.specs.Search.{holdsPan, placeOf}
 use Rattle.holdings.specs.Holdings.{stored, isFull}
 use Rattle.holdings.specs.laws.Storing.{stored-grows, held-other, place-other, apart}
 use Rattle.holdings.specs.AtOnce.{placesIn}

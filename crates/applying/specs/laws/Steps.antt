@@ -10,8 +10,9 @@ use Rattle.theory.specs.Each.{Each}
 use Rattle.times.specs.Time.{realTime}
 use Rattle.lines.specs.Rules.{recordHolds}
 use Rattle.lines.specs.End.{recordOf}
-use Rattle.register.specs.Register.{slotsIn, records, usedIn, inOrder}
-use Rattle.register.specs.Search.{ofActor}
+use Rattle.slots.specs.Slots.{slotsIn, records, usedIn}
+use Rattle.register.specs.Register.{inOrder}
+use Rattle.slots.specs.Search.{ofActor}
 use Rattle.holdings.specs.Holdings.{takenIn, stored, storedAll, others, isFull}
 use Rattle.upkeep.specs.Holds.{Holds}
 

@@ -15,7 +15,7 @@ use Rattle.lines.specs.Rules.{recordHolds}
 use Rattle.lines.specs.End.{recordOf}
 use Rattle.records.specs.laws.Written.{record-front}
 use Rattle.records.specs.laws.Holds.{record-long}
-use Rattle.register.specs.Search.{holdsPan}
+use Rattle.slots.specs.Search.{holdsPan}
 use Rattle.holdings.specs.Holdings.{storedAll, others, replacedAll, isFull, holdings}
 use Rattle.holdings.specs.laws.Storing.{all-new, new-others}
 use Rattle.applying.specs.Fit.{Fit}

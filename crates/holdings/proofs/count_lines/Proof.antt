@@ -1,7 +1,7 @@
 -- The invariant: k of the first i count. Assumes nothing.
 use Prim.Native.Nat.{_≤_, _-_}
 use Rattle.hgv.specs.Layout.{lineLength}
-use Rattle.register.specs.Register.{slotsOf}
+use Rattle.slots.specs.Slots.{slotsOf}
 use Rattle.theory.specs.laws.Among.{CountAmong, count-among-end, count-among-start, count-among-turn}
 use Rattle.theory.specs.laws.Parts.{part-fits}
 use borrow.Author.Needs.{needs}

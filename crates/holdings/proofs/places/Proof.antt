@@ -1,5 +1,5 @@
 -- Assumes nothing.
-use Rattle.register.specs.Register.{slotsOf}
+use Rattle.slots.specs.Slots.{slotsOf}
 use borrow.Author.Needs.{needs}
 use native.Mathlib.Nat.{div-mul-le-self}
 use native.Mathlib.Omega.{arith}

@@ -12,8 +12,8 @@ use Rattle.theory.specs.Pick.{good}
 use Rattle.theory.specs.laws.Table.{entry, length-table}
 use Rattle.columns.specs.Columns.{panOf}
 use Rattle.hgv.specs.Layout.{lineLength}
-use Rattle.register.specs.Register.{slotsMost}
-use Rattle.register.specs.Search.{holdsPan, placeOf}
+use Rattle.sizes.specs.Sizes.{slotsMost}
+use Rattle.slots.specs.Search.{holdsPan, placeOf}
 use Rattle.ordering.specs.Places.{placeFor}
 use Rattle.holdings.specs.AtOnce.{placesIn, atOnce}
 

@@ -10,7 +10,7 @@ use Rattle.theory.specs.laws.Keep.{length-onto}
 use Rattle.theory.specs.Distinct.{distinct}
 use Rattle.columns.specs.Columns.{panOf}
 use Rattle.lines.specs.End.{recordOf}
-use Rattle.register.specs.Register.{slotsOf}
+use Rattle.slots.specs.Slots.{slotsOf}
 use Rattle.holdings.specs.Holdings.{takenIn, storedAll, others, replacedAll, isFull, holdings}
 use Rattle.holdings.specs.Room.{isNew, usedAfter}
 use Rattle.holdings.specs.laws.Storing.{length-all}
