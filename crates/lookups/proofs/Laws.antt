@@ -1,5 +1,5 @@
 -- What the lookups learn from the search, and from the walk over the slots. Assumes nothing.
-use mathlib.Core.Path.{_≡_, refl, sym, ap, _∙_}
+use mathlib.Core.Path.{_≡_, refl, sym, _∙_}
 use mathlib.Core.Bool.{Bool, true, false, not, cond}
 use mathlib.Core.List.{List, []}
 use Prim.Native.Nat.{ℕ, suc, _+_, _-_, _*_, _≤_, _<_}
@@ -22,7 +22,7 @@ use Rattle.slots.specs.Search.{holdsPan, placeOf}
 use Rattle.slots.specs.laws.Slots.{used-slots, slots-used}
 use Rattle.lookups.specs.declared.Found.{Found}
 use Rattle.lookups.specs.Lookup.{unlessRefused, foundAt, panNumber, panPlace, panSlot, fitsPlate, fittingIn, plateNumber, platePlace, plateSlot}
-use Rattle.lookups.specs.laws.Found.{pan-fits, pan-refused, pan-part, plate-fits, plate-refused, plate-part}
+use Rattle.lookups.specs.laws.Found.{at-number, at-place, pan-fits, pan-refused, pan-part, plate-fits, plate-refused, plate-part}
 
 -- ---- an answer
 
@@ -46,22 +46,18 @@ module _ (number : ℕ) (slot : List ℕ) where
 
 -- found is the answer with the record at place i
 module _ (number i : ℕ) (found : Found) (e : found ≡ foundAt number i) where
-  found-number : found .number ≡ number
-  unfolding foundAt
-  found-number = ap (λ (f : Found). f .number) e
-
   found-place : number ≡ 0 → found .place ≡ i
-  unfolding foundAt choose
-  found-place z = ap (λ (f : Found). f .place) e ∙ rw (eq-eqb number 0 z)
+  unfolding choose
+  found-place z = at-place number i found e ∙ rw (eq-eqb number 0 z)
 
   module _ (b : List ℕ) where
     lies : (number ≡ 0 → i * slotLength + slotLength ≤ length b) → found .number ≡ 0 → found .place * slotLength + slotLength ≤ length b
-    lies f z = let k : number ≡ 0 = sym found-number ∙ z in rw (found-place k) (f k)
+    lies f z = let k : number ≡ 0 = sym (at-number number i found e) ∙ z in rw (found-place k) (f k)
 
     lent : (x y : List ℕ) → x ≡ unlessRefused (found .number) (partAt slotLength (found .place) b)
         → (number ≡ 0 → partAt slotLength i b ≡ y) → ((number ≡ 0 → ⊥) → y ≡ []) → x ≡ y
     unfolding unlessRefused
-    lent x y h f g = h ∙ rw found-number (go (eqb number 0) refl)
+    lent x y h f g = h ∙ rw (at-number number i found e) (go (eqb number 0) refl)
       where
         go : (t : Bool) → eqb number 0 ≡ t → cond t (partAt slotLength (found .place) b) [] ≡ y
         go true k = let z : number ≡ 0 = eqb-true number 0 k in rw (found-place z) (f z)
@@ -76,7 +72,7 @@ module _ (b key : List ℕ) (found : Found) (e : found ≡ foundAt (panNumber b 
   pan-lent x h =
       let n : ℕ = panNumber b key in
       let i : ℕ = panPlace b key in
-      (found-number n i found e, lent n i found e b x (panSlot b key) h (pan-part b key) (pan-refused b key))
+      (at-number n i found e, lent n i found e b x (panSlot b key) h (pan-part b key) (pan-refused b key))
 
 module _ (b p n t : List ℕ) (found : Found) (e : found ≡ foundAt (plateNumber b p n t) (platePlace b p n t)) where
   pub plate-lies : found .number ≡ 0 → found .place * slotLength + slotLength ≤ length b
@@ -87,7 +83,7 @@ module _ (b p n t : List ℕ) (found : Found) (e : found ≡ foundAt (plateNumbe
   plate-lent x h =
       let m : ℕ = plateNumber b p n t in
       let i : ℕ = platePlace b p n t in
-      (found-number m i found e, lent m i found e b x (plateSlot b p n t) h (plate-part b p n t) (plate-refused b p n t))
+      (at-number m i found e, lent m i found e b x (plateSlot b p n t) h (plate-part b p n t) (plate-refused b p n t))
 
 -- ---- the search by PAN
 

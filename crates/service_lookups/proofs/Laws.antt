@@ -1,5 +1,5 @@
 -- What the lookups called from outside cite. Assumes nothing.
-use mathlib.Core.Path.{_≡_, refl, sym, ap, _∙_}
+use mathlib.Core.Path.{_≡_, refl, sym, _∙_}
 use mathlib.Core.Bool.{Bool, true, false}
 use mathlib.Core.List.{List}
 use Prim.Native.Nat.{ℕ, _*_, _≤_}
@@ -10,19 +10,15 @@ use Rattle.theory.specs.First.{choose}
 use Rattle.sizes.specs.Sizes.{slotLength}
 use Rattle.lookups.specs.declared.Found.{Found}
 use Rattle.lookups.specs.Lookup.{foundAt, panNumber, panPlace, plateNumber, platePlace}
-use Rattle.lookups.specs.laws.Found.{pan-room, plate-room}
+use Rattle.lookups.specs.laws.Found.{at-number, at-place, pan-room, plate-room}
 use Rattle.service_lookups.specs.Stands.{startOf, panStart, panLength, plateStart, plateLength}
 use Rattle.service_lookups.specs.laws.Stands.{pan-size, plate-size}
 
 -- found is the answer with the record at place i
 module _ (number i : ℕ) (found : Found) (e : found ≡ foundAt number i) where
-  found-number : found .number ≡ number
-  unfolding foundAt
-  found-number = ap (λ (f : Found). f .number) e
-
   found-start : found .place * slotLength ≡ startOf number i
-  unfolding foundAt startOf choose
-  found-start = ap (λ (f : Found). f .place * slotLength) e ∙ go (eqb number 0)
+  unfolding startOf choose
+  found-start = rw (at-place number i found e) (go (eqb number 0))
     where
       go : (t : Bool) → choose t i 0 * slotLength ≡ choose t (i * slotLength) 0
       go true = refl
@@ -45,7 +41,7 @@ module _ (b key : List ℕ) (found : Found) (e : found ≡ foundAt (panNumber b 
       → (found .number ≡ panNumber b key) × ((s ≡ panStart b key) × (l ≡ panLength b key))
   unfolding panStart
   pan-told s f l g =
-      let n : found .number ≡ panNumber b key = found-number (panNumber b key) (panPlace b key) found e in
+      let n : found .number ≡ panNumber b key = at-number (panNumber b key) (panPlace b key) found e in
       (n, (f ∙ found-start (panNumber b key) (panPlace b key) found e, g ∙ rw n (sym (pan-size b key))))
 
 module _ (b p n t : List ℕ) (found : Found) (e : found ≡ foundAt (plateNumber b p n t) (platePlace b p n t)) where
@@ -56,5 +52,5 @@ module _ (b p n t : List ℕ) (found : Found) (e : found ≡ foundAt (plateNumbe
       → (found .number ≡ plateNumber b p n t) × ((s ≡ plateStart b p n t) × (l ≡ plateLength b p n t))
   unfolding plateStart
   plate-told s f l g =
-      let m : found .number ≡ plateNumber b p n t = found-number (plateNumber b p n t) (platePlace b p n t) found e in
+      let m : found .number ≡ plateNumber b p n t = at-number (plateNumber b p n t) (platePlace b p n t) found e in
       (m, (f ∙ found-start (plateNumber b p n t) (platePlace b p n t) found e, g ∙ rw m (sym (plate-size b p n t))))

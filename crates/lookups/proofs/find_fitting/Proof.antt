@@ -1,5 +1,4 @@
 -- The invariant: from i on `count` fit, and the first of them is at `first`. Assumes nothing.
-use mathlib.Core.Path.{_≡_}
 use Prim.Native.Nat.{_+_, _≤_}
 use native.Mathlib.Omega.{arith}
 use borrow.Author.Needs.{needs}

@@ -34,8 +34,9 @@ use Rattle.slots.specs.laws.Slots.{records-chop, used-fits}
 use Rattle.slots.specs.Search.{holdsPan, placeOf}
 use Rattle.register.specs.Register.{inOrder}
 use Rattle.register.specs.laws.Register.{ordered}
+use Rattle.lookups.specs.declared.Found.{Found}
 use Rattle.lookups.specs.Promises.{ByPan, ByPlate}
-use Rattle.lookups.specs.Lookup.{unlessRefused, panRules, panNumber, panPlace, panSlot, fitsPlate, fittingIn, plateRules, plateNumber, platePlace, plateSlot}
+use Rattle.lookups.specs.Lookup.{unlessRefused, foundAt, panRules, panNumber, panPlace, panSlot, fitsPlate, fittingIn, plateRules, plateNumber, platePlace, plateSlot}
 
 -- ---- the place of a record that passes: it lies within the register, and its part is the record
 
@@ -58,6 +59,17 @@ module _ (q : List ℕ → Bool) (b : List ℕ) where
 
     found-slot : partAt slotLength (place q (records b)) b ≡ getD (records b) (place q (records b)) []
     found-slot = sym (ap (λ (R : List (List ℕ)). getD R (place q (records b)) []) (records-chop b) ∙ getD-chop slotLength (usedIn b) b (place q (records b)) found-below)
+
+-- ---- an answer, with the record at place i
+
+module _ (number i : ℕ) (found : Found) (e : found ≡ foundAt number i) where
+  pub at-number : found .number ≡ number
+  unfolding foundAt
+  at-number = ap (λ (f : Found). f .number) e
+
+  pub at-place : found .place ≡ choose (eqb number 0) i 0
+  unfolding foundAt
+  at-place = ap (λ (f : Found). f .place) e
 
 -- a refusal hands nothing back
 refused : (number : ℕ) (slot : List ℕ) → (number ≡ 0 → ⊥) → unlessRefused number slot ≡ []

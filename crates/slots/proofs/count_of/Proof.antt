@@ -29,10 +29,10 @@ loop-again : tie.Need-loop-again Inv-loop μ-loop
 unfolding bump
 loop-again c =
     let l = c .before .before .before .before .loop in
-    let h = c .before .before .before .loop-test .taken in
-    let turn = counted _ _ _ _ _ _ (l .inv .1 .1) h _ (c .before .before .part .ensures) _ (c .before .is-of .ensures) _ in (
+    let h = c .before .before .before .loop-test .taken in (
       omega arith,
-      ⊎-elim
+      let turn = counted _ _ _ _ _ _ (l .inv .1 .1) h _ (c .before .before .part .ensures) _ (c .before .is-of .ensures) _ in
+          ⊎-elim
           (λ w. (omega arith, turn (rw (w .0 .taken) (omega (arith, w .1)))))
           (λ w. (omega arith, turn (rw (w .0 .left) (w .1))))
           (c .if1 .came),
