@@ -17,9 +17,11 @@ use Rattle.sizes.specs.Modes.{isFull}
 use Rattle.columns.specs.Columns.{panOf}
 use Rattle.lines.specs.Rules.{recordHolds}
 use Rattle.lines.specs.End.{recordOf}
-use Rattle.register.specs.Register.{slotsIn, records, usedIn, inOrder}
-use Rattle.register.specs.Search.{holdsPan, placeOf}
-use Rattle.register.specs.laws.Register.{ordered, used-most}
+use Rattle.slots.specs.Slots.{slotsIn, records, usedIn}
+use Rattle.register.specs.Register.{inOrder}
+use Rattle.slots.specs.Search.{holdsPan, placeOf}
+use Rattle.slots.specs.laws.Slots.{used-most}
+use Rattle.register.specs.laws.Register.{ordered}
 use Rattle.taken.specs.Taken.{takenIn}
 use Rattle.holdings.specs.Holdings.{storedAll, others, holdings}
 use Rattle.holdings.specs.laws.Places.{places-tell}

@@ -9,7 +9,7 @@ use Rattle.theory.specs.Distinct.{distinct}
 use Rattle.sizes.specs.Sizes.{slotsMost}
 use Rattle.sizes.specs.Modes.{isFull}
 use Rattle.columns.specs.Columns.{panOf}
-use Rattle.register.specs.Search.{heldByAnother}
+use Rattle.slots.specs.Search.{heldByAnother}
 use Rattle.holdings.specs.Holdings.{holdings}
 use Rattle.holdings.specs.Places.{placesIn}
 use Rattle.upkeep.specs.Makes.{Makes}

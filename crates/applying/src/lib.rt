@@ -8,7 +8,8 @@ ghost use Rattle.theory.specs.Each.{Each};
 ghost use Rattle.times.specs.Time.{realTime};
 ghost use Rattle.lines.specs.Rules.{recordHolds};
 ghost use Rattle.lines.specs.End.{recordOf};
-ghost use Rattle.register.specs.Register.{slotsIn, records, inOrder};
+ghost use Rattle.slots.specs.Slots.{slotsIn, records};
+ghost use Rattle.register.specs.Register.{inOrder};
 ghost use Rattle.taken.specs.Taken.{takenIn};
 ghost use Rattle.upkeep.specs.Holds.{Left};
 ghost use Rattle.applying.specs.Fit.{Fit, Sought};
@@ -23,7 +24,7 @@ fn prepare(mode: u64, register: &mut [u8], who: &[u8]) -> usize
     if mode == sizes::FULL {
         return removing::remove_of(register, who);
     }
-    register::used_slots(register)
+    slots::used_slots(register)
 }
 
 // The lines whose verdict is 0, of this sender and received at `reception`, applied to a register in order; `found` tells

@@ -15,8 +15,10 @@ use Rattle.theory.specs.Pad.{pad}
 use Rattle.numbers.specs.Number.{number}
 use Rattle.hgv.specs.Layout.{linesIn, linesOf}
 use Rattle.header.specs.Header.{sender, count}
-use Rattle.register.specs.Register.{slotLength, slotsIn, records, usedIn, inOrder}
-use Rattle.register.specs.Search.{ofActor}
+use Rattle.sizes.specs.Sizes.{slotLength}
+use Rattle.slots.specs.Slots.{slotsIn, records, usedIn}
+use Rattle.register.specs.Register.{inOrder}
+use Rattle.slots.specs.Search.{ofActor}
 use Rattle.verdicts.specs.Verdict.{verdictRules, verdictsOf}
 use Rattle.hgc.specs.Confirmation.{confirmation}
 use Rattle.holdings.specs.Holdings.{others, holdings}

@@ -5,7 +5,8 @@ use mathlib.Core.List.{List, []}
 use Prim.Native.Nat.{ℕ, _≤_}
 use Rattle.theory.specs.Join.{flat}
 use Rattle.theory.specs.Pad.{pad}
-use Rattle.register.specs.Register.{slotLength, slotsMost, records}
+use Rattle.sizes.specs.Sizes.{slotLength, slotsMost}
+use Rattle.slots.specs.Slots.{records}
 use Rattle.importer.specs.declared.Imported.{Imported}
 use Rattle.provider.specs.declared.Counted.{Counted}
 use Rattle.demands.specs.Own.{own}

@@ -9,7 +9,7 @@ use lib.ListN.{take, replicate}
 use Rattle.theory.specs.Same.{eqs}
 use Rattle.theory.specs.Keep.{sift}
 use Rattle.header.specs.Header.{sender}
-use Rattle.register.specs.Register.{slotLength, slotsMost}
+use Rattle.sizes.specs.Sizes.{slotLength, slotsMost}
 use Rattle.importer.specs.declared.Imported.{Imported}
 use Rattle.importer.specs.Promises.{Import}
 use Rattle.provider.specs.declared.Counted.{Counted}

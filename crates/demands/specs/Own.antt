@@ -2,7 +2,7 @@
 use mathlib.Core.List.{List}
 use Prim.Native.Nat.{ℕ}
 use Rattle.theory.specs.Keep.{sift}
-use Rattle.register.specs.Search.{ofActor}
+use Rattle.slots.specs.Search.{ofActor}
 
 -- the records of a provider, in our order
 unfoldable pub own : List ℕ → List (List ℕ) → List (List ℕ)

@@ -9,7 +9,7 @@ use Rattle.theory.specs.Walk.{some}
 use Rattle.theory.specs.Pick.{good, pick}
 use Rattle.columns.specs.Columns.{panOf}
 use Rattle.lines.specs.Faultless.{Faultless}
-use Rattle.register.specs.Search.{holdsPan, heldByAnother}
+use Rattle.slots.specs.Search.{holdsPan, heldByAnother}
 use Rattle.verdicts.specs.Verdict.{verdictRules}
 
 -- of the lines ls, with the verdicts vs, those taken before line i (from 0)

@@ -22,9 +22,9 @@ use Rattle.theory.specs.laws.Among.{CountAmong, count-among-start, count-among-
 use Rattle.columns.specs.Columns.{panOf}
 use Rattle.sizes.specs.Sizes.{full, slotLength, slotsMost}
 use Rattle.sizes.specs.Modes.{isFull}
-use Rattle.register.specs.Register.{slotsIn, slotsOf, records, usedIn, usedPart}
-use Rattle.register.specs.laws.Register.{used-slots, slots-used}
-use Rattle.register.specs.Search.{holdsPan, placeOf, ofActor, countOf}
+use Rattle.slots.specs.Slots.{slotsIn, slotsOf, records, usedIn, usedPart}
+use Rattle.slots.specs.laws.Slots.{used-slots, slots-used}
+use Rattle.slots.specs.Search.{holdsPan, placeOf, ofActor, countOf}
 use Rattle.taken.specs.Taken.{takenIn}
 use Rattle.holdings.specs.Holdings.{others}
 use Rattle.holdings.specs.Room.{isNew, usedAfter}

@@ -6,7 +6,7 @@ use mathlib.Core.List.{List, [], _∷_, _++_, map}
 use Rattle.theory.specs.Keep.{sift}
 use Rattle.columns.specs.Columns.{panOf}
 use Rattle.sizes.specs.Modes.{isFull}
-use Rattle.register.specs.Search.{holdsPan, ofActor}
+use Rattle.slots.specs.Search.{holdsPan, ofActor}
 
 -- x in place of r where the test holds, else r, and what is made of those behind it
 unfoldable pub storedOn : Bool → List ℕ → List ℕ → List (List ℕ) → List (List ℕ) → List (List ℕ)

@@ -3,7 +3,7 @@ use mathlib.Core.Path.{_≡_}
 use mathlib.Core.List.{List}
 use Prim.Native.Nat.{ℕ}
 use lib.ListN.{getD}
-use Rattle.register.specs.Register.{records}
+use Rattle.slots.specs.Slots.{records}
 use Rattle.taken.specs.Taken.{takenIn}
 use Rattle.holdings.specs.Room.{usedAfter}
 use Rattle.holdings.specs.Places.{placesAfter}

@@ -7,7 +7,7 @@ use lib.ListN.{length}
 use Rattle.theory.specs.Keep.{sift}
 use Rattle.theory.specs.Walk.{some}
 use Rattle.columns.specs.Columns.{panOf}
-use Rattle.register.specs.Search.{holdsPan}
+use Rattle.slots.specs.Search.{holdsPan}
 use Rattle.holdings.specs.Holdings.{others}
 use Rattle.sizes.specs.Modes.{isFull}
 

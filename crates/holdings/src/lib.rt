@@ -8,7 +8,7 @@ ghost use lib.ListN.{length};
 ghost use Rattle.theory.specs.Count.{bump};
 ghost use Rattle.theory.specs.Pick.{good};
 ghost use Rattle.sizes.specs.Sizes.{slotsMost};
-ghost use Rattle.register.specs.Register.{slotsIn, slotsOf, usedIn};
+ghost use Rattle.slots.specs.Slots.{slotsIn, slotsOf, usedIn};
 ghost use Rattle.holdings.specs.Places.{placesIn};
 ghost use Rattle.holdings.specs.laws.Places.{CountsNew};
 ghost use Rattle.holdings.specs.Promises.{PlaceAt, UsedAfter};
@@ -92,10 +92,10 @@ pub fn used_after(
     requires few { ⌜ usedIn (now register) ≤ slotsMost ⌝ }
     ensures { λ r. ⌜ UsedAfter mode (now (register .entry)) (now (who .entry)) (now (lines .entry)) width (now (verdicts .entry)) (now (found .entry)) r (now (found .exit)) ⌝ }
 {
-    let held = register::used_part(register);
+    let held = slots::used_part(register);
     let used = held.len() / sizes::SLOT;
     if mode == sizes::FULL {
-        let others = used - register::count_of(held, who);
+        let others = used - slots::count_of(held, who);
         return others + taken::count_taken(verdicts) as usize;
     }
     find_places(held, lines, width, verdicts, found);

@@ -19,8 +19,10 @@ use Rattle.lines.specs.Rules.{recordHolds}
 use Rattle.lines.specs.End.{recordOf}
 use Rattle.taken.specs.Taken.{takenIn}
 use Rattle.hgv.specs.Layout.{widthOf, linesIn, lengthHolds, body}
-use Rattle.register.specs.Register.{records, slotsIn, usedIn, inOrder}
-use Rattle.register.specs.laws.Register.{ordered, used-most}
+use Rattle.slots.specs.Slots.{records, slotsIn, usedIn}
+use Rattle.register.specs.Register.{inOrder}
+use Rattle.slots.specs.laws.Slots.{used-most}
+use Rattle.register.specs.laws.Register.{ordered}
 use Rattle.upkeep.specs.Holds.{Holds}
 use Rattle.verdicts.specs.Verdict.{taken}
 use Rattle.hgc.specs.Confirmation.{confirmation, confirmationLength}

@@ -13,7 +13,7 @@ use Rattle.theory.specs.Tally.{tally}
 use Rattle.header.specs.Header.{sender}
 use Rattle.sizes.specs.Sizes.{slotLength}
 use Rattle.lines.specs.End.{recordOf}
-use Rattle.register.specs.Register.{slotsIn, records}
+use Rattle.slots.specs.Slots.{slotsIn, records}
 use Rattle.verdicts.specs.Verdict.{fileVerdicts, taken}
 use Rattle.hgc.specs.Confirmation.{confirmation}
 use Rattle.holdings.specs.Holdings.{holdings}

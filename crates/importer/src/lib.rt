@@ -6,7 +6,7 @@ ghost use Rattle.theory.specs.Pick.{bad};
 ghost use Rattle.theory.specs.Tally.{tally};
 ghost use Rattle.stops.specs.laws.Clear.{Clear};
 ghost use Rattle.hgv.specs.Layout.{widthOf, linesIn, body};
-ghost use Rattle.register.specs.Register.{records};
+ghost use Rattle.slots.specs.Slots.{records};
 ghost use Rattle.holdings.specs.Places.{placesAfter};
 ghost use Rattle.importer.specs.Import.{judged, roomStops, refusal, success, written, told};
 ghost use Rattle.applying.specs.laws.Sought.{NoPlaces};

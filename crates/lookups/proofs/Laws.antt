@@ -1,22 +1,91 @@
--- What the lookups learn from the search and from the count. Assumes nothing.
+-- What the lookups learn from the search, and from the walk over the slots. Assumes nothing.
 use mathlib.Core.Path.{_≡_, refl, sym, _∙_}
-use mathlib.Core.Bool.{Bool, true, false, not}
+use mathlib.Core.Bool.{Bool, true, false, not, cond}
 use mathlib.Core.List.{List, []}
-use Prim.Native.Nat.{ℕ, _+_, _*_, _≤_, _<_}
+use Prim.Native.Nat.{ℕ, suc, _+_, _-_, _*_, _≤_, _<_}
 use native.Mathlib.Omega.{arith}
 use lib.Dec.{eqb, ltb}
 use lib.ListN.{length}
-use borrow.Author.Tests.{eq-eqb, ne-eqb, ltb-true, ltb-false}
-use Rattle.theory.specs.Parts.{partAt}
+use borrow.Author.Tests.{eqb-true, eqb-false, eq-eqb, ne-eqb, ltb-true, ltb-false}
+use Rattle.theory.specs.First.{choose}
+use Rattle.theory.specs.Parts.{chop, partAt}
+use Rattle.theory.specs.laws.Parts.{partsFrom, parts-start, parts-step, parts-end}
+use Rattle.theory.specs.Count.{bump}
 use Rattle.theory.specs.Walk.{some}
-use Rattle.theory.specs.Place.{place}
+use Rattle.theory.specs.Place.{place, placeOn}
 use Rattle.theory.specs.laws.Place.{place-most, place-some}
 use Rattle.theory.specs.Keep.{sift}
-use Rattle.register.specs.Register.{slotLength, slotsIn, slotsOf, records, usedIn, usedPart}
-use Rattle.register.specs.Search.{holdsPan, placeOf}
-use Rattle.register.specs.laws.Register.{used-slots, slots-used}
-use Rattle.lookups.specs.Lookup.{panNumber, panPlace, panSlot, unlessRefused, seen, seenIn, plateNumber, platePlace, plateSlot}
-use Rattle.lookups.specs.laws.Found.{pan-fits, pan-part, plate-fits, plate-part}
+use Rattle.theory.specs.laws.Keep.{length-onto}
+use Rattle.sizes.specs.Sizes.{slotLength}
+use Rattle.slots.specs.Slots.{slotsIn, slotsOf, records, usedIn, usedPart}
+use Rattle.slots.specs.Search.{holdsPan, placeOf}
+use Rattle.slots.specs.laws.Slots.{used-slots, slots-used}
+use Rattle.lookups.specs.declared.Found.{Found}
+use Rattle.lookups.specs.Lookup.{unlessRefused, foundAt, panNumber, panPlace, panSlot, fitsPlate, fittingIn, plateNumber, platePlace, plateSlot}
+use Rattle.lookups.specs.laws.Found.{at-number, at-place, pan-fits, pan-refused, pan-part, plate-fits, plate-refused, plate-part}
+
+-- ---- an answer
+
+module _ (number i : ℕ) where
+  pub refused-at : (number ≡ 0 → ⊥) → record { number = number; place = 0 } ≡ foundAt number i
+  unfolding foundAt choose
+  refused-at h = rw (ne-eqb number 0 h)
+
+  pub granted-at : number ≡ 0 → record { number = number; place = i } ≡ foundAt number i
+  unfolding foundAt choose
+  granted-at h = rw (eq-eqb number 0 h)
+
+module _ (number : ℕ) (slot : List ℕ) where
+  pub nothing-lent : (number ≡ 0 → ⊥) → [] ≡ unlessRefused number slot
+  unfolding unlessRefused
+  nothing-lent h = rw (ne-eqb number 0 h)
+
+  pub slot-lent : number ≡ 0 → (x : List ℕ) → x ≡ slot → x ≡ unlessRefused number slot
+  unfolding unlessRefused
+  slot-lent h x e = e ∙ rw (eq-eqb number 0 h)
+
+-- found is the answer with the record at place i
+module _ (number i : ℕ) (found : Found) (e : found ≡ foundAt number i) where
+  found-place : number ≡ 0 → found .place ≡ i
+  unfolding choose
+  found-place z = at-place number i found e ∙ rw (eq-eqb number 0 z)
+
+  module _ (b : List ℕ) where
+    lies : (number ≡ 0 → i * slotLength + slotLength ≤ length b) → found .number ≡ 0 → found .place * slotLength + slotLength ≤ length b
+    lies f z = let k : number ≡ 0 = sym (at-number number i found e) ∙ z in rw (found-place k) (f k)
+
+    lent : (x y : List ℕ) → x ≡ unlessRefused (found .number) (partAt slotLength (found .place) b)
+        → (number ≡ 0 → partAt slotLength i b ≡ y) → ((number ≡ 0 → ⊥) → y ≡ []) → x ≡ y
+    unfolding unlessRefused
+    lent x y h f g = h ∙ rw (at-number number i found e) (go (eqb number 0) refl)
+      where
+        go : (t : Bool) → eqb number 0 ≡ t → cond t (partAt slotLength (found .place) b) [] ≡ y
+        go true k = let z : number ≡ 0 = eqb-true number 0 k in rw (found-place z) (f z)
+        go false k = sym (g (eqb-false number 0 k))
+
+module _ (b key : List ℕ) (found : Found) (e : found ≡ foundAt (panNumber b key) (panPlace b key)) where
+  pub pan-lies : found .number ≡ 0 → found .place * slotLength + slotLength ≤ length b
+  pan-lies = lies (panNumber b key) (panPlace b key) found e b (pan-fits b key)
+
+  pub pan-lent : (x : List ℕ) → x ≡ unlessRefused (found .number) (partAt slotLength (found .place) b)
+      → (found .number ≡ panNumber b key) × (x ≡ panSlot b key)
+  pan-lent x h =
+      let n : ℕ = panNumber b key in
+      let i : ℕ = panPlace b key in
+      (at-number n i found e, lent n i found e b x (panSlot b key) h (pan-part b key) (pan-refused b key))
+
+module _ (b p n t : List ℕ) (found : Found) (e : found ≡ foundAt (plateNumber b p n t) (platePlace b p n t)) where
+  pub plate-lies : found .number ≡ 0 → found .place * slotLength + slotLength ≤ length b
+  plate-lies = lies (plateNumber b p n t) (platePlace b p n t) found e b (plate-fits b p n t)
+
+  pub plate-lent : (x : List ℕ) → x ≡ unlessRefused (found .number) (partAt slotLength (found .place) b)
+      → (found .number ≡ plateNumber b p n t) × (x ≡ plateSlot b p n t)
+  plate-lent x h =
+      let m : ℕ = plateNumber b p n t in
+      let i : ℕ = platePlace b p n t in
+      (at-number m i found e, lent m i found e b x (plateSlot b p n t) h (plate-part b p n t) (plate-refused b p n t))
+
+-- ---- the search by PAN
 
 -- the place is the number where none passes
 none-at : (p n : ℕ) → p ≤ n → eqb p n ≡ not (ltb p n)
@@ -26,61 +95,67 @@ none-at p n h = go (ltb p n) refl
     go true e = let l : p < n = ltb-true p n e in ne-eqb p n (λ q. omega arith)
     go false e = eq-eqb p n (omega (arith, ltb-false p n e))
 
--- `used` is the used part, in which the first that passes was looked for
-module _ (q : List ℕ → Bool) (b used : List ℕ) (i : ℕ) (u : used ≡ usedPart b) (f : i ≡ place q (slotsOf used)) where
-  place-is : i ≡ place q (records b)
-  place-is = f ∙ rw (u, slots-used b)
-
-  unfound : eqb i (slotsIn used) ≡ not (some q (records b))
-  unfound =
-      let e : slotsIn used ≡ usedIn b = rw u (used-slots b) in
-      rw (place-some q (records b), place-is, e) (none-at (place q (records b)) (usedIn b) (place-most q (records b)))
-
-module _ (number : ℕ) (slot : List ℕ) where
-  refused : (number ≡ 0 → ⊥) → [] ≡ unlessRefused number slot
-  unfolding unlessRefused
-  refused h = rw (ne-eqb number 0 h)
-
--- the search by PAN, as the lookup has it
+-- `used` is the used part, in which the PAN was looked for
 module _ (b key used : List ℕ) (i : ℕ) (u : used ≡ usedPart b) (f : i ≡ placeOf key (slotsOf used)) where
-  pub pan-unfound : eqb i (slotsIn used) ≡ not (some (holdsPan key) (records b))
-  unfolding placeOf
-  pan-unfound = unfound (holdsPan key) b used i u f
-
   pub pan-place : i ≡ panPlace b key
-  unfolding placeOf panPlace
-  pan-place = place-is (holdsPan key) b used i u f
+  unfolding panPlace
+  pan-place = f ∙ rw (u, slots-used b)
 
-module _ (b key : List ℕ) (number : ℕ) (e : number ≡ panNumber b key) where
-  pub pan-refused : (number ≡ 0 → ⊥) → [] ≡ panSlot b key
-  unfolding panSlot
-  pan-refused h = refused (panNumber b key) _ (λ z. h (e ∙ z))
+  pub pan-unfound : eqb i (slotsIn used) ≡ not (some (holdsPan key) (records b))
+  unfolding panPlace placeOf
+  pan-unfound =
+      let q : List ℕ → Bool = holdsPan key in
+      let e : slotsIn used ≡ usedIn b = rw u (used-slots b) in
+      rw (place-some q (records b), pan-place, e) (none-at (place q (records b)) (usedIn b) (place-most q (records b)))
 
-  module _ (z : number ≡ 0) (i : ℕ) (f : i ≡ panPlace b key) where
-    pub pan-within : i * slotLength + slotLength ≤ length b
-    pan-within = rw f (pan-fits b key (sym e ∙ z))
+-- ---- the walk by plate, from the last slot to the first
 
-    pub pan-handed : (x : List ℕ) → x ≡ partAt slotLength i b → x ≡ panSlot b key
-    pan-handed x p = p ∙ rw f (pan-part b key (sym e ∙ z))
+module _ (q : List ℕ → Bool) (w n : ℕ) (b : List ℕ) where
+  -- from place i on k parts pass, and the first of them, or the end, is at f
+  unfoldable pub Behind : ℕ → ℕ → ℕ → Type 0
+  Behind i k f = (k ≡ length (sift q (partsFrom w n i b))) × (f ≡ i + place q (partsFrom w n i b))
 
--- the count and the search by plate, as the lookup has them
+  pub behind-start : Behind n 0 n
+  unfolding Behind sift place
+  behind-start = rw (parts-end w n b n (omega arith)) (refl, omega arith)
+
+  module _ (j k f : ℕ) (v : Behind j k f) where
+    pub behind-end : j ≡ 0 → (k ≡ length (sift q (chop w n b))) × (f ≡ place q (chop w n b))
+    unfolding Behind
+    behind-end z = let e : chop w n b ≡ partsFrom w n j b = rw z (parts-start w n b) in rw e (v .0, omega (arith, v .1, z))
+
+    -- x is the part in front of j, and r what the test said of it
+    module _ (h : (0 < j) × (j ≤ n)) (x : List ℕ) (p : x ≡ partAt w (j - 1) b) (r : Bool) (e : r ≡ q x) where
+      count : length (sift q (partsFrom w n (j - 1) b)) ≡ bump r k
+      unfolding Behind sift
+      count =
+          let s : j - 1 + 1 ≡ j = omega arith in
+          rw (parts-step w n b (j - 1) (omega arith), ← p, ← e, s, v .0) (length-onto r x (sift q (partsFrom w n j b)))
+
+      first : place q (partsFrom w n (j - 1) b) ≡ placeOn r (place q (partsFrom w n j b))
+      unfolding place
+      first =
+          let s : j - 1 + 1 ≡ j = omega arith in
+          rw (parts-step w n b (j - 1) (omega arith), ← p, ← e, s)
+
+      pub behind-hit : r ≡ true → Behind (j - 1) (k + 1) (j - 1)
+      unfolding Behind bump placeOn
+      behind-hit t =
+          let c : length (sift q (partsFrom w n (j - 1) b)) ≡ suc k = count ∙ rw t in
+          let g : place q (partsFrom w n (j - 1) b) ≡ 0 = first ∙ rw t in (omega arith, omega arith)
+
+      pub behind-miss : r ≡ false → Behind (j - 1) k f
+      unfolding Behind bump placeOn
+      behind-miss t =
+          let c : length (sift q (partsFrom w n (j - 1) b)) ≡ k = count ∙ rw t in
+          let g : place q (partsFrom w n (j - 1) b) ≡ suc (place q (partsFrom w n j b)) = first ∙ rw t in (sym c, omega (arith, v .1))
+
+-- `used` is the used part, which the walk went over
 module _ (b p n t used : List ℕ) (u : used ≡ usedPart b) where
-  pub plate-count : (k : ℕ) → k ≡ length (sift (seen p n t) (slotsOf used)) → k ≡ length (seenIn b p n t)
-  unfolding seenIn
+  pub plate-count : (k : ℕ) → k ≡ length (sift (fitsPlate p n t) (slotsOf used)) → k ≡ length (fittingIn b p n t)
+  unfolding fittingIn
   plate-count k f = f ∙ rw (u, slots-used b)
 
-  pub plate-place : (i : ℕ) → i ≡ place (seen p n t) (slotsOf used) → i ≡ platePlace b p n t
+  pub plate-place : (i : ℕ) → i ≡ place (fitsPlate p n t) (slotsOf used) → i ≡ platePlace b p n t
   unfolding platePlace
-  plate-place i f = place-is (seen p n t) b used i u f
-
-module _ (b p n t : List ℕ) (number : ℕ) (e : number ≡ plateNumber b p n t) where
-  pub plate-refused : (number ≡ 0 → ⊥) → [] ≡ plateSlot b p n t
-  unfolding plateSlot
-  plate-refused h = refused (plateNumber b p n t) _ (λ z. h (e ∙ z))
-
-  module _ (z : number ≡ 0) (i : ℕ) (f : i ≡ platePlace b p n t) where
-    pub plate-within : i * slotLength + slotLength ≤ length b
-    plate-within = rw f (plate-fits b p n t (sym e ∙ z))
-
-    pub plate-handed : (x : List ℕ) → x ≡ partAt slotLength i b → x ≡ plateSlot b p n t
-    plate-handed x q = q ∙ rw f (plate-part b p n t (sym e ∙ z))
+  plate-place i f = f ∙ rw (u, slots-used b)

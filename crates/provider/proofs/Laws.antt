@@ -25,9 +25,9 @@ use Rattle.theory.specs.Pick.{bad}
 use Rattle.texts.specs.Field.{field, listed}
 use Rattle.numbers.specs.Number.{numberAfter, number}
 use Rattle.header.specs.Header.{sender}
-use Rattle.register.specs.Register.{slotsIn, slotsOf, records, usedPart}
-use Rattle.register.specs.Search.{ofActor, countOf}
-use Rattle.register.specs.laws.Register.{slots-used, used-slots}
+use Rattle.slots.specs.Slots.{slotsIn, slotsOf, records, usedPart}
+use Rattle.slots.specs.Search.{ofActor, countOf}
+use Rattle.slots.specs.laws.Slots.{slots-used, used-slots}
 use Rattle.hgc.specs.Confirmation.{answerLength}
 use Rattle.pairing.specs.laws.Telling.{toldAt, told-left}
 use Rattle.receipts.specs.Receipt.{answersIn, behindHead, answersOf, reasonOf, reasonHolds}

@@ -20,8 +20,10 @@ use Rattle.lines.specs.End.{recordOf}
 use Rattle.taken.specs.Taken.{takenIn}
 use Rattle.hgv.specs.Layout.{widthOf, linesIn, body, linesOf}
 use Rattle.hgv.specs.laws.Layout.{lines-room, lines-most}
-use Rattle.register.specs.Register.{slotsIn, records, usedIn, inOrder}
-use Rattle.register.specs.laws.Register.{ordered, used-most}
+use Rattle.slots.specs.Slots.{slotsIn, records, usedIn}
+use Rattle.register.specs.Register.{inOrder}
+use Rattle.slots.specs.laws.Slots.{used-most}
+use Rattle.register.specs.laws.Register.{ordered}
 use Rattle.holdings.specs.Holdings.{holdings}
 use Rattle.holdings.specs.Room.{usedAfter}
 use Rattle.upkeep.specs.Holds.{Holds}

@@ -16,8 +16,9 @@ use Rattle.header.specs.Header.{sender, headerHolds}
 use Rattle.claims.specs.Claims.{versionHolds, receiverHolds, countHolds}
 use Rattle.sizes.specs.Sizes.{slotLength}
 use Rattle.lines.specs.End.{recordOf}
-use Rattle.register.specs.Register.{slotsIn, records, inOrder}
-use Rattle.register.specs.Search.{ofActor}
+use Rattle.slots.specs.Slots.{slotsIn, records}
+use Rattle.register.specs.Register.{inOrder}
+use Rattle.slots.specs.Search.{ofActor}
 use Rattle.holdings.specs.Holdings.{holdings}
 use Rattle.stops.specs.Stops.{modeHolds, notFull}
 use Rattle.receipts.specs.Receipt.{receptionOf, takenBy, receiptHolds}

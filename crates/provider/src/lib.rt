@@ -148,8 +148,8 @@ pub fn read_back(hgv: &[u8], hgc: &[u8], verdicts: &mut [u8]) -> Counted
 fn is_own(copy: &[u8], hgv: &[u8]) -> bool
     ensures { λ r. ⌜ r ≡ ownHolds (now (copy .entry)) (now (hgv .entry)) ⌝ }
 {
-    let held = register::used_part(copy);
-    register::count_of(held, header::sender(hgv)) == held.len() / sizes::SLOT
+    let held = slots::used_part(copy);
+    slots::count_of(held, header::sender(hgv)) == held.len() / sizes::SLOT
 }
 
 // The stops that look at the mode, the copy and the HGV.

@@ -18,7 +18,7 @@ use Rattle.numbers.specs.Number.{number}
 use Rattle.times.specs.Time.{realTime}
 use Rattle.columns.specs.Columns.{text, panOf}
 use Rattle.lines.specs.Rules.{recordHolds}
-use Rattle.register.specs.Search.{ofActor}
+use Rattle.slots.specs.Search.{ofActor}
 use Rattle.hgv.specs.Layout.{linesOf}
 use Rattle.sizes.specs.Sizes.{footerLength, hgcHeaderLength}
 use Rattle.frames.specs.Frames.{footerHolds}

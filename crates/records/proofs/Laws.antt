@@ -2,7 +2,7 @@
 use mathlib.Core.Path.{_≡_, refl, ap, _∙_}
 use mathlib.Core.Bool.{Bool, true, false, _&&_}
 use mathlib.Core.List.{List, [], _++_}
-use Prim.Native.Nat.{ℕ, _+_, _-_, _*_, _/_, _≤_, _<_}
+use Prim.Native.Nat.{ℕ, _+_, _-_, _*_, _≤_, _<_}
 use native.Mathlib.Omega.{arith}
 use lib.Dec.{eqb, leb}
 use lib.ListN.{length, take, drop}
@@ -12,67 +12,69 @@ use Rattle.theory.specs.Text.{bytes}
 use Rattle.theory.specs.Parts.{partAt}
 use Rattle.theory.specs.laws.Parts.{part-is}
 use Rattle.theory.specs.laws.Put.{put-lent}
+use Rattle.sizes.specs.Sizes.{slotLength, slotEnd, timeLength}
 use Rattle.texts.specs.Field.{field, lineEnd}
 use Rattle.texts.specs.laws.Field.{field-length}
 use Rattle.writing.specs.Put.{putField}
 use Rattle.writing.specs.laws.Put.{written-start, written-next, written-end}
 use Rattle.columns.specs.Columns.{validTo}
 use Rattle.lines.specs.End.{endOf, recordOf}
+use Rattle.slots.specs.Slots.{slotsIn}
 use Rattle.records.specs.laws.Written.{length-end}
-use Rattle.records.specs.Slot.{fits, written, putRecord}
+use Rattle.records.specs.Slot.{lineLeast, fits, written, putRecord}
 
 -- a field of a line, as its reader has it
-pub wide : (from to : ℕ) (l f : List ℕ) → f ≡ field from to l → 127 ≤ length l → 1 ≤ from → to ≤ 127 → length f ≡ to + 1 - from
+pub wide : (from to : ℕ) (l f : List ℕ) → f ≡ field from to l → lineLeast ≤ length l → 1 ≤ from → to ≤ lineLeast → length f ≡ to + 1 - from
 wide from to l f e h a k = ap length e ∙ field-length from to l a (omega arith)
 
 -- s₁ to s₅ are the slot after each field
-pub record-written : (reception l s₀ s₁ s₂ s₃ s₄ s₅ f v g : List ℕ) → length s₀ ≡ 128 → 127 ≤ length l → length reception ≡ 14
+pub record-written : (reception l s₀ s₁ s₂ s₃ s₄ s₅ f v g : List ℕ) → length s₀ ≡ slotLength → lineLeast ≤ length l → length reception ≡ timeLength
     → f ≡ field 2 100 l → v ≡ validTo l → g ≡ field 115 127 l
-    → s₁ ≡ putField 1 (bytes "1") s₀ → s₂ ≡ putField 2 f s₁ → s₃ ≡ putField 101 (endOf reception v) s₂ → s₄ ≡ putField 115 g s₃ → s₅ ≡ putField 128 lineEnd s₄
+    → s₁ ≡ putField 1 (bytes "1") s₀ → s₂ ≡ putField 2 f s₁ → s₃ ≡ putField 101 (endOf reception v) s₂ → s₄ ≡ putField 115 g s₃ → s₅ ≡ putField slotEnd lineEnd s₄
     → s₅ ≡ recordOf reception l
 unfolding recordOf
 record-written reception l s₀ s₁ s₂ s₃ s₄ s₅ f v g n h m ef ev eg e₁ e₂ e₃ e₄ e₅ =
     let nf : length f ≡ 99 = wide 2 100 l f ef h (omega arith) (omega arith) in
-    let nv : length v ≡ 14 = wide 101 114 l v ev h (omega arith) (omega arith) in
+    let nv : length v ≡ timeLength = wide 101 114 l v ev h (omega arith) (omega arith) in
     let ng : length g ≡ 13 = wide 115 127 l g eg h (omega arith) (omega arith) in
-    let ne : length (endOf reception v) ≡ 14 = length-end reception v nv m in
-    let w₁ = written-next 128 1 [] s₀ (written-start s₀ 128 n) (bytes "1") s₁ 2 e₁ refl (omega arith) (omega arith) in
-    let w₂ = written-next 128 2 _ s₁ w₁ f s₂ 101 e₂ (omega arith) (omega arith) (omega arith) in
-    let w₃ = written-next 128 101 _ s₂ w₂ (endOf reception v) s₃ 115 e₃ (omega arith) (omega arith) (omega arith) in
-    let w₄ = written-next 128 115 _ s₃ w₃ g s₄ 128 e₄ (omega arith) (omega arith) (omega arith) in
-    let w₅ = written-next 128 128 _ s₄ w₄ lineEnd s₅ 129 e₅ refl (omega arith) (omega arith) in
-    written-end 128 129 _ s₅ w₅ (omega arith) ∙ rw (ef, ev, eg)
+    let ne : length (endOf reception v) ≡ timeLength = length-end reception v nv m in
+    let w₁ = written-next slotLength 1 [] s₀ (written-start s₀ slotLength n) (bytes "1") s₁ 2 e₁ refl (omega arith) (omega arith) in
+    let w₂ = written-next slotLength 2 _ s₁ w₁ f s₂ 101 e₂ (omega arith) (omega arith) (omega arith) in
+    let w₃ = written-next slotLength 101 _ s₂ w₂ (endOf reception v) s₃ 115 e₃ (omega arith) (omega arith) (omega arith) in
+    let w₄ = written-next slotLength 115 _ s₃ w₃ g s₄ slotEnd e₄ (omega arith) (omega arith) (omega arith) in
+    let w₅ = written-next slotLength slotEnd _ s₄ w₄ lineEnd s₅ (slotEnd + 1) e₅ refl (omega arith) (omega arith) in
+    written-end slotLength (slotEnd + 1) _ s₅ w₅ (omega arith) ∙ rw (ef, ev, eg)
 
 -- ---- a slot, and a slot of a register
 
 module _ (reception l slot : List ℕ) where
   -- what the writer asks of the three
   abbrev asked : Bool
-  asked = (eqb (length slot) 128 && leb 127 (length l)) && eqb (length reception) 14
+  asked = (eqb (length slot) slotLength && leb lineLeast (length l)) && eqb (length reception) timeLength
 
   pub unwritten : asked ≡ false → slot ≡ written reception l slot
   unfolding written fits
   unwritten h = rw h
 
   module _ (h : asked ≡ true) where
-    pub sizes : (length slot ≡ 128) × ((127 ≤ length l) × (length reception ≡ 14))
-    sizes =
-        let s = and-split (eqb (length slot) 128 && leb 127 (length l)) (eqb (length reception) 14) h in
-        let t = and-split (eqb (length slot) 128) (leb 127 (length l)) (s .0) in
-        (eqb-true (length slot) 128 (t .0), (leb-true 127 (length l) (t .1), eqb-true (length reception) 14 (s .1)))
+    pub fitting : (length slot ≡ slotLength) × ((lineLeast ≤ length l) × (length reception ≡ timeLength))
+    fitting =
+        let s = and-split (eqb (length slot) slotLength && leb lineLeast (length l)) (eqb (length reception) timeLength) h in
+        let t = and-split (eqb (length slot) slotLength) (leb lineLeast (length l)) (s .0) in
+        (eqb-true (length slot) slotLength (t .0), (leb-true lineLeast (length l) (t .1), eqb-true (length reception) timeLength (s .1)))
 
     pub filled : (s : List ℕ) → s ≡ recordOf reception l → s ≡ written reception l slot
     unfolding written fits
     filled s e = e ∙ rw h
 
 module _ (i : ℕ) (reception l b : List ℕ) where
-  pub no-slot : length b / 128 ≤ i → b ≡ putRecord i reception l b
+  pub no-slot : slotsIn b ≤ i → b ≡ putRecord i reception l b
   unfolding putRecord
-  no-slot h = rw (le-ltb i (length b / 128) h)
+  no-slot h = rw (le-ltb i (slotsIn b) h)
 
   -- the slot lent and returned, as the borrow checker has it; y is what came back
-  pub put-slot : i < length b / 128 → (y : List ℕ) → y ≡ written reception l (take (i * 128 + 128 - i * 128) (drop (i * 128) b))
-      → take (i * 128) b ++ (y ++ drop (i * 128 + 128 - i * 128) (drop (i * 128) b)) ≡ putRecord i reception l b
+  pub put-slot : i < slotsIn b → (y : List ℕ) → y ≡ written reception l (take (i * slotLength + slotLength - i * slotLength) (drop (i * slotLength) b))
+      → take (i * slotLength) b ++ (y ++ drop (i * slotLength + slotLength - i * slotLength) (drop (i * slotLength) b)) ≡ putRecord i reception l b
   unfolding putRecord
   put-slot h y e =
-      put-lent 128 i (written reception l (partAt 128 i b)) y b (e ∙ ap (written reception l) (part-is 128 i b)) ∙ rw (lt-ltb i (length b / 128) h)
+      put-lent slotLength i (written reception l (partAt slotLength i b)) y b (e ∙ ap (written reception l) (part-is slotLength i b)) ∙ rw (lt-ltb i (slotsIn b) h)

@@ -1,26 +1,18 @@
 -- A slot of a register with a line's record written into it, for texts of any length. Assumes nothing.
 use mathlib.Core.Bool.{Bool, cond, _&&_}
 use mathlib.Core.List.{List}
-use Prim.Native.Nat.{ℕ, _/_}
+use Prim.Native.Nat.{ℕ}
 use lib.Dec.{eqb, leb, ltb}
 use lib.ListN.{length}
 use Rattle.theory.specs.Parts.{partAt}
 use Rattle.theory.specs.Put.{putPart}
+use Rattle.sizes.specs.Sizes.{slotLength, timeLength}
 use Rattle.lines.specs.End.{recordOf}
+use Rattle.slots.specs.Slots.{slotsIn}
 
-abbrev pub slotLength : ℕ
-slotLength = 128
-
--- a record takes a line over up to this position
+-- a record takes a line over up to this position, the last of the column `filler`
 abbrev pub lineLeast : ℕ
 lineLeast = 127
-
-abbrev pub timeLength : ℕ
-timeLength = 14
-
--- the number of slots
-abbrev pub slotsIn : List ℕ → ℕ
-slotsIn b = length b / slotLength
 
 -- a slot, a line and a reception of which a record can be made
 unfoldable pub fits : List ℕ → List ℕ → List ℕ → Bool

@@ -2,26 +2,20 @@
 ghost use mathlib.Core.Path.{_≡_};
 ghost use Prim.Native.Nat.{_≤_};
 ghost use lib.ListN.{length};
+ghost use Rattle.sizes.specs.Sizes.{slotLength, timeLength};
 ghost use Rattle.writing.specs.Put.{putField};
 ghost use Rattle.lines.specs.End.{endOf, recordOf};
+ghost use Rattle.records.specs.Slot.{lineLeast};
 ghost use Rattle.records.specs.Promises.{WriteRecord, PutRecord};
-
-const SLOT: usize = 128;
-
-const LINE_LEAST: usize = 127;
-
-const TIME: usize = 14;
 
 const IDENTIFIER: usize = 1;
 
-const LINE_END: usize = 128;
-
 // What a Valid to becomes at a reception.
 fn put_end(slot: &mut [u8], given: &[u8], reception: &[u8])
-    requires { ⌜ (length (now slot) ≡ 128) × ((length (now given) ≡ 14) × (length (now reception) ≡ 14)) ⌝ }
+    requires { ⌜ (length (now slot) ≡ slotLength) × ((length (now given) ≡ timeLength) × (length (now reception) ≡ timeLength)) ⌝ }
     ensures { λ _. ⌜ now (slot .exit) ≡ putField 101 (endOf (now (reception .entry)) (now (given .entry))) (now (slot .entry)) ⌝ }
 {
-    if fields::is_zeros(given, TIME) | times::is_earlier(reception, given) {
+    if fields::is_zeros(given, sizes::TIME) | times::is_earlier(reception, given) {
         writing::put_field(slot, columns::VALID_TO_FROM, given);
         return;
     }
@@ -30,7 +24,7 @@ fn put_end(slot: &mut [u8], given: &[u8], reception: &[u8])
 
 // Every byte of the slot is written.
 fn fill_slot(slot: &mut [u8], line: &[u8], reception: &[u8])
-    requires { ⌜ (length (now slot) ≡ 128) × ((127 ≤ length (now line)) × (length (now reception) ≡ 14)) ⌝ }
+    requires { ⌜ (length (now slot) ≡ slotLength) × ((lineLeast ≤ length (now line)) × (length (now reception) ≡ timeLength)) ⌝ }
     ensures { λ _. ⌜ now (slot .exit) ≡ recordOf (now (reception .entry)) (now (line .entry)) ⌝ }
 {
     let front = texts::field(line, columns::ACTOR_FROM, columns::WEIGHT_TO);
@@ -40,7 +34,7 @@ fn fill_slot(slot: &mut [u8], line: &[u8], reception: &[u8])
     writing::put_field(slot, columns::ACTOR_FROM, front);
     put_end(slot, given, reception);
     writing::put_field(slot, columns::SEPARATOR_FROM, rest);
-    writing::put_field(slot, LINE_END, b"\n");
+    writing::put_field(slot, sizes::SLOT_END, b"\n");
 }
 
 // The record of a line written into its slot; a slot or a reception of another length, or a line that is too short,
@@ -48,7 +42,9 @@ fn fill_slot(slot: &mut [u8], line: &[u8], reception: &[u8])
 pub fn write_record(slot: &mut [u8], line: &[u8], reception: &[u8])
     ensures { λ _. ⌜ WriteRecord (now (slot .entry)) (now (line .entry)) (now (reception .entry)) (now (slot .exit)) ⌝ }
 {
-    if !((slot.len() == SLOT) & (LINE_LEAST <= line.len()) & (reception.len() == TIME)) {
+    if !((slot.len() == sizes::SLOT)
+        & (columns::FILLER_TO <= line.len())
+        & (reception.len() == sizes::TIME)) {
         return;
     }
     fill_slot(slot, line, reception);
@@ -58,10 +54,10 @@ pub fn write_record(slot: &mut [u8], line: &[u8], reception: &[u8])
 pub fn put_record(register: &mut [u8], i: usize, line: &[u8], reception: &[u8])
     ensures { λ _. ⌜ PutRecord (now (register .entry)) i (now (line .entry)) (now (reception .entry)) (now (register .exit)) ⌝ }
 {
-    if register.len() / SLOT <= i {
+    if register.len() / sizes::SLOT <= i {
         return;
     }
-    let at = i * SLOT;
-    let behind = at + SLOT;
+    let at = i * sizes::SLOT;
+    let behind = at + sizes::SLOT;
     write_record(&mut register[at..behind], line, reception);
 }

@@ -1,5 +1,5 @@
 -- What the walks over the slots need. Assumes nothing.
-use mathlib.Core.Path.{_≡_, refl, sym, ap, _∙_}
+use mathlib.Core.Path.{_≡_, refl, ap, _∙_}
 use mathlib.Core.Bool.{Bool, true, false, _&&_}
 use mathlib.Core.List.{List, [], _∷_, map}
 use Prim.Native.Nat.{ℕ, zero, suc, _-_, _*_, _%_, _≤_}
@@ -8,44 +8,20 @@ use lib.Dec.{eqb, leb}
 use lib.ListN.{length, take, drop, replicate, length-drop}
 use borrow.Author.Tests.{leb-true}
 use Rattle.theory.specs.laws.Truth.{and-right}
-use Rattle.theory.specs.Same.{eqs}
-use Rattle.theory.specs.laws.Same.{eqs-sym}
-use Rattle.theory.specs.Count.{count}
-use Rattle.theory.specs.laws.Count.{Counted, counted-end}
 use Rattle.theory.specs.Parts.{chop}
 use Rattle.theory.specs.laws.Parts.{partsFrom, parts-start, length-chop}
 use Rattle.theory.specs.laws.Place.{drop-chop}
 use Rattle.theory.specs.Walk.{each}
 use Rattle.theory.specs.Distinct.{distinct}
-use Rattle.theory.specs.Keep.{onto, sift}
-use Rattle.theory.specs.laws.Keep.{length-onto}
+use Rattle.theory.specs.Keep.{onto}
 use Rattle.theory.specs.Pick.{good, pick}
 use Rattle.theory.specs.laws.Pick.{pick-take}
 use Rattle.theory.specs.laws.Table.{length-cut}
-use Rattle.columns.specs.Columns.{actor, panOf}
-use Rattle.register.specs.Register.{slotLength, slotsMost, slotsIn, slotsOf, usedForm, freeForm, records, usedIn, inOrder}
-use Rattle.register.specs.laws.Register.{used-most, used-fits, records-chop, slots-front}
-use Rattle.register.specs.Search.{ofActor, countOf}
-
--- the used slots lie within the block
-pub used-room : (b : List ℕ) (used : ℕ) → used ≡ usedIn b → used * slotLength ≤ length b
-used-room b used u = rw u (used-fits b)
-
--- ---- an actor's records
-
-module _ (who : List ℕ) where
-  pub of-is : (x : List ℕ) (r : Bool) → r ≡ ofActor who x → r ≡ eqs who (actor x)
-  unfolding ofActor
-  of-is x r e = e ∙ eqs-sym (actor x) who
-
-  count-actor : (R : List (List ℕ)) → count who (map actor R) ≡ countOf who R
-  unfolding countOf sift count ofActor
-  count-actor [] = refl
-  count-actor (x ∷ R) = rw (count-actor R, eqs-sym who (actor x)) (sym (length-onto (ofActor who x) x (sift (ofActor who) R)))
-
-  pub count-is : (b : List ℕ) (i k : ℕ) → Counted slotLength (slotsIn b) actor who b i k → slotsIn b ≤ i → k ≡ countOf who (slotsOf b)
-  unfolding slotsOf
-  count-is b i k v h = counted-end slotLength (slotsIn b) actor who b i k v h ∙ count-actor (chop slotLength (slotsIn b) b)
+use Rattle.sizes.specs.Sizes.{slotLength, slotsMost}
+use Rattle.columns.specs.Columns.{panOf}
+use Rattle.slots.specs.Slots.{slotsIn, slotsOf, records, usedIn}
+use Rattle.slots.specs.laws.Slots.{used-most, records-chop, slots-front}
+use Rattle.register.specs.Register.{usedForm, freeForm, inOrder}
 
 -- the slots from a place on, as the code lends them
 pub between-is : (n : ℕ) (b : List ℕ) (from : ℕ) → (from ≤ n) × (n * slotLength ≤ length b)
@@ -74,19 +50,19 @@ module _ (n m : ℕ) (h : n ≤ m) where
 -- ---- in order
 
 module _ (b : List ℕ) where
-  abbrev sizes : Bool
-  sizes = eqb (length b % slotLength) 0 && leb (slotsIn b) slotsMost
+  abbrev sized : Bool
+  sized = eqb (length b % slotLength) 0 && leb (slotsIn b) slotsMost
 
-  pub unsized : sizes ≡ false → inOrder b ≡ false
+  pub unsized : sized ≡ false → inOrder b ≡ false
   unfolding inOrder
   unsized h = rw h
 
   -- no more are used than there may be
-  pub used-few : (u : ℕ) → u ≡ usedIn b → sizes ≡ true → u ≤ slotsMost
+  pub used-few : (u : ℕ) → u ≡ usedIn b → sized ≡ true → u ≤ slotsMost
   used-few u m t = omega (arith, used-most b, leb-true (slotsIn b) slotsMost (and-right (eqb (length b % slotLength) 0) (leb (slotsIn b) slotsMost) t))
 
   -- u slots are used: `front` holds them, and `rest` those behind them
-  pub order-is : (u : ℕ) → u ≡ usedIn b → sizes ≡ true → (front rest : List ℕ) → slotsOf front ≡ partsFrom slotLength u 0 b → slotsOf rest ≡ partsFrom slotLength (slotsIn b) u b
+  pub order-is : (u : ℕ) → u ≡ usedIn b → sized ≡ true → (front rest : List ℕ) → slotsOf front ≡ partsFrom slotLength u 0 b → slotsOf rest ≡ partsFrom slotLength (slotsIn b) u b
       → (s f d : Bool) → s ≡ each usedForm (slotsOf front) → f ≡ each freeForm (slotsOf rest) → d ≡ distinct (map panOf (chop slotLength u b)) → (s && f) && d ≡ inOrder b
   unfolding inOrder slotsOf
   order-is u m t front rest p q s f d e₁ e₂ e₃ =

@@ -1,4 +1,3 @@
 pub mod Register
-pub mod Search
 pub mod Promises
 pub mod laws

@@ -14,9 +14,11 @@ use Rattle.theory.specs.Scan.{scan, takenNext}
 use Rattle.theory.specs.laws.Scan.{Judged, judged-start, judged-turn, judged-end}
 use Rattle.closing.specs.Closing.{kept, closedUp}
 use Rattle.sizes.specs.Sizes.{slotLength, slotsMost}
-use Rattle.register.specs.Register.{slotsIn, slotsOf, records, usedIn, usedPart, inOrder}
-use Rattle.register.specs.Search.{ofActor}
-use Rattle.register.specs.laws.Register.{ordered, used-most, used-fits, records-chop, slots-used}
+use Rattle.slots.specs.Slots.{slotsIn, slotsOf, records, usedIn, usedPart}
+use Rattle.register.specs.Register.{inOrder}
+use Rattle.slots.specs.Search.{ofActor}
+use Rattle.slots.specs.laws.Slots.{used-most, used-fits, records-chop, slots-used}
+use Rattle.register.specs.laws.Register.{ordered}
 use Rattle.holdings.specs.Holdings.{others}
 use Rattle.upkeep.specs.Holds.{Left}
 use Rattle.upkeep.specs.laws.Stays.{closed}

@@ -2,7 +2,7 @@
 use mathlib.Core.List.{List}
 use Prim.Native.Nat.{ℕ}
 use Rattle.theory.specs.Pick.{good, pick}
-use Rattle.register.specs.Register.{slotsIn, records}
+use Rattle.slots.specs.Slots.{slotsIn, records}
 use Rattle.holdings.specs.Holdings.{others}
 use Rattle.upkeep.specs.Holds.{Left}
 

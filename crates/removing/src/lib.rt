@@ -6,8 +6,9 @@ ghost use Prim.Native.Nat.{_*_, _≤_};
 ghost use lib.ListN.{length};
 ghost use Rattle.theory.specs.Parts.{chop};
 ghost use Rattle.sizes.specs.Sizes.{slotLength};
-ghost use Rattle.register.specs.Register.{usedIn, inOrder};
-ghost use Rattle.register.specs.Search.{ofActor};
+ghost use Rattle.slots.specs.Slots.{usedIn};
+ghost use Rattle.register.specs.Register.{inOrder};
+ghost use Rattle.slots.specs.Search.{ofActor};
 ghost use Rattle.removing.specs.laws.Marks.{markBy};
 ghost use Rattle.removing.specs.Promises.{RemoveMarked, RemoveOf};
 
@@ -53,7 +54,7 @@ pub fn remove_of(register: &mut [u8], who: &[u8]) -> usize
     requires { ⌜ inOrder (now register) ≡ true ⌝ }
     ensures { λ r. ⌜ RemoveOf (now (register .entry)) (now (who .entry)) r (now (register .exit)) ⌝ }
 {
-    let used = register::used_slots(register);
+    let used = slots::used_slots(register);
     let mut marks = [0u8; sizes::SLOTS_MOST];
     mark_and_remove(register, who, &mut marks[..used])
 }

@@ -1,19 +1,14 @@
--- What a lookup called from Rust promises: the number returned, and the two numbers written, where the slot starts and
--- its size. The other calls promise what `import`, `read_back` and `update` do. Assumes nothing.
-use mathlib.Core.Path.{_≡_}
+-- What the import called from Rust promises: that of `import`, by the number returned and the three numbers written.
+-- Assumes nothing.
 use mathlib.Core.List.{List}
 use Prim.Native.Nat.{ℕ}
-use Rattle.lookups.specs.Lookup.{panNumber, plateNumber}
-use Rattle.service.specs.Answers.{panStart, panLength, plateStart, plateLength}
+use Rattle.importer.specs.declared.Imported.{Imported}
+use Rattle.importer.specs.Promises.{Import}
 
-abbrev pub GraftspindleByPan : List ℕ → List ℕ → ℕ → ℕ → ℕ → Type 0
-GraftspindleByPan b key number start size =
-    (number ≡ panNumber b key)
-    × ((start ≡ panStart b key)
-    × (size ≡ panLength b key))
+-- the four numbers as `import` answers them
+abbrev pub answered : ℕ → ℕ → ℕ → ℕ → Imported
+answered number taken rejected size = record { number = number; taken = taken; rejected = rejected; length = size }
 
-abbrev pub GraftspindleByPlate : List ℕ → List ℕ → List ℕ → List ℕ → ℕ → ℕ → ℕ → Type 0
-GraftspindleByPlate b p n t number start size =
-    (number ≡ plateNumber b p n t)
-    × ((start ≡ plateStart b p n t)
-    × (size ≡ plateLength b p n t))
+abbrev pub GraftspindleImport : ℕ → List ℕ → List ℕ → List ℕ → List ℕ → List ℕ → ℕ → ℕ → ℕ → ℕ → List ℕ → List ℕ → Type 0
+GraftspindleImport mode reception register rows h hgc number taken rejected size b g =
+    Import mode reception register rows h hgc (answered number taken rejected size) b g

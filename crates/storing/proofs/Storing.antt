@@ -27,9 +27,10 @@ use Rattle.lines.specs.Rules.{recordHolds}
 use Rattle.lines.specs.End.{recordOf}
 use Rattle.records.specs.Slot.{putRecord}
 use Rattle.sizes.specs.Sizes.{slotLength, slotsMost}
-use Rattle.register.specs.Register.{slotsIn, records, usedIn}
-use Rattle.register.specs.Search.{holdsPan, placeOf}
-use Rattle.register.specs.laws.Register.{ordered, used-most}
+use Rattle.slots.specs.Slots.{slotsIn, records, usedIn}
+use Rattle.slots.specs.Search.{holdsPan, placeOf}
+use Rattle.slots.specs.laws.Slots.{used-most}
+use Rattle.register.specs.laws.Register.{ordered}
 use Rattle.holdings.specs.Holdings.{stored, storedAll}
 use Rattle.holdings.specs.laws.Storing.{stored-held, stored-new, all-grows}
 use Rattle.upkeep.specs.Holds.{Holds, Left}

@@ -13,8 +13,9 @@ use Rattle.times.specs.Time.{realTime}
 use Rattle.columns.specs.Columns.{panOf}
 use Rattle.lines.specs.Rules.{recordHolds}
 use Rattle.lines.specs.End.{recordOf}
-use Rattle.register.specs.Register.{slotsIn, records, usedIn, inOrder}
-use Rattle.register.specs.Search.{holdsPan, placeOf}
+use Rattle.slots.specs.Slots.{slotsIn, records, usedIn}
+use Rattle.register.specs.Register.{inOrder}
+use Rattle.slots.specs.Search.{holdsPan, placeOf}
 use Rattle.taken.specs.Taken.{takenIn}
 use Rattle.holdings.specs.Holdings.{storedAll}
 

@@ -10,7 +10,7 @@ ghost use Rattle.theory.specs.Pick.{good};
 ghost use Rattle.sizes.specs.Sizes.{slotsMost};
 ghost use Rattle.columns.specs.Columns.{panOf};
 ghost use Rattle.lines.specs.End.{recordOf};
-ghost use Rattle.register.specs.Register.{slotsIn, records};
+ghost use Rattle.slots.specs.Slots.{slotsIn, records};
 ghost use Rattle.holdings.specs.Holdings.{stored};
 ghost use Rattle.upkeep.specs.Holds.{Left};
 ghost use Rattle.storing.specs.CanStore.{Stands, CanStore};

@@ -6,7 +6,9 @@ use Prim.Native.Nat.{ℕ}
 use lib.ListN.{length}
 use Rattle.theory.specs.Join.{flat}
 use Rattle.theory.specs.Pad.{pad}
-use Rattle.register.specs.Register.{slotLength, slotsIn, records, inOrder}
+use Rattle.sizes.specs.Sizes.{slotLength}
+use Rattle.slots.specs.Slots.{slotsIn, records}
+use Rattle.register.specs.Register.{inOrder}
 
 -- b has n slots, is in order and holds the records R
 pub record Holds (n : ℕ) (R : List (List ℕ)) (b : List ℕ) : Type 0 where

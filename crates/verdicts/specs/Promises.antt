@@ -2,7 +2,7 @@
 use mathlib.Core.Path.{_≡_}
 use mathlib.Core.List.{List}
 use Prim.Native.Nat.{ℕ}
-use Rattle.register.specs.Register.{records}
+use Rattle.slots.specs.Slots.{records}
 use Rattle.verdicts.specs.Verdict.{fileVerdicts}
 
 -- a verdict for each line

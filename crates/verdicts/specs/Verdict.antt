@@ -8,7 +8,7 @@ use Rattle.theory.specs.Pick.{good, pick}
 use Rattle.theory.specs.Scan.{scan}
 use Rattle.columns.specs.Columns.{panOf}
 use Rattle.lines.specs.Rules.{lineRules}
-use Rattle.register.specs.Search.{holdsPan, heldByAnother}
+use Rattle.slots.specs.Search.{holdsPan, heldByAnother}
 use Rattle.hgv.specs.Layout.{linesOf}
 use Rattle.header.specs.Header.{sender}
 

@@ -7,8 +7,8 @@ ghost use Rattle.theory.specs.First.{first};
 ghost use Rattle.theory.specs.Parts.{chop, partAt};
 ghost use Rattle.theory.specs.Walk.{some};
 ghost use Rattle.theory.specs.Pick.{good, pick};
-ghost use Rattle.register.specs.Register.{slotsOf};
-ghost use Rattle.register.specs.Search.{holdsPan};
+ghost use Rattle.slots.specs.Slots.{slotsOf};
+ghost use Rattle.slots.specs.Search.{holdsPan};
 ghost use Rattle.hgv.specs.Layout.{linesIn};
 ghost use Rattle.verdicts.specs.Verdict.{ownRules, verdict, verdictsOf};
 ghost use Rattle.verdicts.specs.Promises.{Judge};
@@ -39,7 +39,7 @@ fn own_fault(l: &[u8], sender: &[u8], rows: &[u8], held: &[u8]) -> u8
         return fault as u8;
     }
     let pan = texts::field(l, columns::PAN_FROM, columns::PAN_TO);
-    if register::is_held_by_another(held, pan, sender) {
+    if slots::is_held_by_another(held, pan, sender) {
         return 4;
     }
     0
@@ -98,6 +98,6 @@ pub fn judge(hgv: &[u8], rows: &[u8], register: &[u8], verdicts: &mut [u8])
     let lines = hgv::body(hgv);
     let width = hgv::width(hgv);
     let sender = header::sender(hgv);
-    let held = register::used_part(register);
+    let held = slots::used_part(register);
     judge_lines(lines, width, sender, rows, held, verdicts);
 }

@@ -31,8 +31,9 @@ use Rattle.times.specs.Order.{earlier}
 use Rattle.lines.specs.End.{endOf, recordOf}
 use Rattle.lines.specs.Rules.{L1, L2, L3, L4, L5, L6, L7, stateless, L8, L9, lineRules, recordHolds, L10}
 use Rattle.lines.specs.laws.Starred.{starred}
-use Rattle.register.specs.Register.{slotsOf, marked, usedForm, freeForm, records, usedPart, inOrder}
-use Rattle.register.specs.Search.{holdsPan, placeOf, ofActor, holdsForeign, heldByAnother, countOf}
+use Rattle.slots.specs.Slots.{slotsOf, marked, records, usedPart}
+use Rattle.register.specs.Register.{usedForm, freeForm, inOrder}
+use Rattle.slots.specs.Search.{holdsPan, placeOf, ofActor, holdsForeign, heldByAnother, countOf}
 use Rattle.hgv.specs.Layout.{linesIn, lengthHolds, body, linesOf, footer}
 use Rattle.frames.specs.Frames.{footerForm, footerHolds, framed, framesHold}
 use Rattle.sequences.specs.Sequence.{sequence}

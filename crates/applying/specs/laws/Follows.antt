@@ -17,8 +17,9 @@ use Rattle.theory.specs.Join.{flat}
 use Rattle.theory.specs.Pad.{pad}
 use Rattle.columns.specs.Columns.{panOf}
 use Rattle.sizes.specs.Sizes.{slotLength}
-use Rattle.register.specs.Register.{slotsIn, records, inOrder}
-use Rattle.register.specs.Search.{holdsPan, placeOf, ofActor}
+use Rattle.slots.specs.Slots.{slotsIn, records}
+use Rattle.register.specs.Register.{inOrder}
+use Rattle.slots.specs.Search.{holdsPan, placeOf, ofActor}
 use Rattle.sizes.specs.Modes.{isFull}
 use Rattle.holdings.specs.Holdings.{stored, storedAll, others, holdings}
 use Rattle.holdings.specs.laws.Storing.{stored-held, stored-new, all-grows}

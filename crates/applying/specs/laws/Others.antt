@@ -10,7 +10,7 @@ use Rattle.theory.specs.Each.{Each, none, more}
 use Rattle.theory.specs.laws.Each.{each-map}
 use Rattle.theory.specs.Walk.{some}
 use Rattle.columns.specs.Columns.{panOf}
-use Rattle.register.specs.Search.{holdsPan, ofActor, holdsForeign, heldByAnother}
+use Rattle.slots.specs.Search.{holdsPan, ofActor, holdsForeign, heldByAnother}
 use Rattle.holdings.specs.Holdings.{storedOn, stored, storedAll, others, replacedAll, holdings}
 use Rattle.sizes.specs.Modes.{isFull}
 use Rattle.holdings.specs.laws.Storing.{stored-grows, free-stored, others-all, others-replaced}

@@ -8,7 +8,7 @@ use Rattle.theory.specs.laws.Each.{each-map}
 use Rattle.theory.specs.Walk.{some}
 use Rattle.sizes.specs.Modes.{isFull}
 use Rattle.columns.specs.Columns.{panOf}
-use Rattle.register.specs.Search.{holdsPan}
+use Rattle.slots.specs.Search.{holdsPan}
 use Rattle.holdings.specs.Holdings.{storedAll, others, replacedAll, holdings}
 use Rattle.holdings.specs.laws.Storing.{all-new, new-others}
 use Rattle.upkeep.specs.laws.Makes.{made-pans, each-made}

@@ -4,11 +4,12 @@ use mathlib.Core.Path.{_≡_, refl}
 use Prim.Native.Nat.{_≤_, _-_}
 use native.Mathlib.Omega.{arith}
 use Rattle.theory.specs.laws.CloseUp.{Freeing, freeing-start, freeing-turn}
+use Rattle.sizes.specs.Sizes.{slotLength}
 use Rattle.closing.proofs.free_up.Statement.{statement}
 use Rattle.closing.proofs.free_up.Tie as tie
 
 abbrev Inv-loop : tie.InvT-loop
-Inv-loop block₀ k n j₀ block j = (j ≤ n) × Freeing 128 block₀ block k j
+Inv-loop block₀ k n j₀ block j = (j ≤ n) × Freeing slotLength block₀ block k j
 
 abbrev μ-loop : tie.MeasureT-loop
 μ-loop block₀ k n j₀ block j = n - j

@@ -4,16 +4,17 @@ use mathlib.Core.Path.{sym, ap, _∙_}
 use lib.ListN.{length}
 use Rattle.theory.specs.laws.Parts.{length-part}
 use Rattle.theory.specs.laws.Put.{put-ap}
+use Rattle.sizes.specs.Sizes.{slotLength}
 use Rattle.closing.proofs.move_slot.Statement.{statement}
 use Rattle.closing.proofs.move_slot.Tie as tie
 
 copy-requires : tie.Need-copy-requires
-copy-requires c κs = sym (ap length (c .part .ensures) ∙ length-part 128 _ _ (c .before .before .before .before .pre .0))
+copy-requires c κs = sym (ap length (c .part .ensures) ∙ length-part slotLength _ _ (c .before .before .before .before .pre .0))
 
 returns : tie.Need-returns
 returns c =
     let y = c .before .before .before .before .before .before in
-    c .before .before .put-slot .ensures ∙ put-ap 128 _ _ (y .copy .ensures ∙ y .before .part .ensures)
+    c .before .before .put-slot .ensures ∙ put-ap slotLength _ _ (y .copy .ensures ∙ y .before .part .ensures)
 
 pub move-slot-spec : {M : Type 1} → statement M
 move-slot-spec =

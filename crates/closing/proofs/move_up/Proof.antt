@@ -6,12 +6,13 @@ use borrow.Author.Needs.{needs}
 use Rattle.theory.specs.Parts.{chop}
 use Rattle.theory.specs.Pick.{good, pick}
 use Rattle.theory.specs.laws.CloseUp.{Closing}
+use Rattle.sizes.specs.Sizes.{slotLength}
 use Rattle.closing.proofs.Laws.{closes-start, closes-turn}
 use Rattle.closing.proofs.move_up.Statement.{statement}
 use Rattle.closing.proofs.move_up.Tie as tie
 
 abbrev Inv-loop : tie.InvT-loop
-Inv-loop block₀ marks n k₀ i₀ block k i = (i ≤ n) × Closing 128 (pick good marks (chop 128 i block₀)) block₀ block i k
+Inv-loop block₀ marks n k₀ i₀ block k i = (i ≤ n) × Closing slotLength (pick good marks (chop slotLength i block₀)) block₀ block i k
 
 abbrev μ-loop : tie.MeasureT-loop
 μ-loop block₀ marks n k₀ i₀ block k i = n - i

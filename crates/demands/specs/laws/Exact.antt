@@ -16,9 +16,11 @@ use Rattle.numbers.specs.Number.{number}
 use Rattle.lines.specs.End.{recordOf}
 use Rattle.hgv.specs.Layout.{linesIn, linesOf}
 use Rattle.header.specs.Header.{sender, count}
-use Rattle.register.specs.Register.{slotLength, slotsIn, records, usedIn, inOrder}
-use Rattle.register.specs.Search.{ofActor}
-use Rattle.register.specs.laws.Register.{records-chop}
+use Rattle.sizes.specs.Sizes.{slotLength}
+use Rattle.slots.specs.Slots.{slotsIn, records, usedIn}
+use Rattle.register.specs.Register.{inOrder}
+use Rattle.slots.specs.Search.{ofActor}
+use Rattle.slots.specs.laws.Slots.{records-chop}
 use Rattle.verdicts.specs.Verdict.{fileVerdicts, taken}
 use Rattle.hgc.specs.Confirmation.{confirmation}
 use Rattle.holdings.specs.Holdings.{others, holdings}

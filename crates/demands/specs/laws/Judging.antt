@@ -8,7 +8,7 @@ use Rattle.theory.specs.Walk.{some}
 use Rattle.theory.specs.laws.Scan.{length-scan, scan-at, scan-only}
 use Rattle.columns.specs.Columns.{panOf}
 use Rattle.lines.specs.laws.Faultless.{faultless-none}
-use Rattle.register.specs.Search.{holdsPan}
+use Rattle.slots.specs.Search.{holdsPan}
 use Rattle.verdicts.specs.Verdict.{ownRules, verdictRules, verdict, verdictsOf}
 use Rattle.verdicts.specs.laws.Verdict.{own-is, verdict-is, taken-faultless, taken-free}
 use Rattle.demands.specs.Verdicts.{Verdicts, Unbroken}

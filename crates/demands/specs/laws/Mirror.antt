@@ -12,8 +12,8 @@ use Rattle.theory.specs.laws.Stopped.{at-success}
 use Rattle.theory.specs.laws.Walk.{passes-each}
 use Rattle.theory.specs.laws.Keep.{sift-passes}
 use Rattle.header.specs.Header.{sender}
-use Rattle.register.specs.Register.{slotsIn, records}
-use Rattle.register.specs.Search.{ofActor}
+use Rattle.slots.specs.Slots.{slotsIn, records}
+use Rattle.slots.specs.Search.{ofActor}
 use Rattle.verdicts.specs.Verdict.{taken}
 use Rattle.holdings.specs.Holdings.{holdings}
 use Rattle.upkeep.specs.Holds.{Holds}

@@ -16,7 +16,7 @@ use Rattle.theory.specs.Keep.{onto, sift}
 use Rattle.theory.specs.laws.Keep.{sift-append, sift-length, sift-passes, sift-all, sift-apart, sift-inside}
 use Rattle.columns.specs.Columns.{actor, panOf}
 use Rattle.lines.specs.End.{recordOf}
-use Rattle.register.specs.Search.{holdsPan, ofActor, holdsForeign, heldByAnother}
+use Rattle.slots.specs.Search.{holdsPan, ofActor, holdsForeign, heldByAnother}
 use Rattle.holdings.specs.Holdings.{storedOn, stored, storedAll, others, replacedAll, holdings}
 use Rattle.sizes.specs.Modes.{isFull}
 use Rattle.holdings.specs.laws.Storing.{own-free, free-stored}

@@ -28,8 +28,8 @@ use Rattle.hgv.specs.laws.Layout.{length-lines, each-lined, lines-most}
 use Rattle.frames.specs.Frames.{framed, framesHold}
 use Rattle.frames.specs.laws.Frames.{framed-is}
 use Rattle.header.specs.Header.{sender}
-use Rattle.register.specs.Register.{records}
-use Rattle.register.specs.Search.{holdsPan}
+use Rattle.slots.specs.Slots.{records}
+use Rattle.slots.specs.Search.{holdsPan}
 use Rattle.verdicts.specs.Verdict.{ownRules, verdict, verdictsOf, fileVerdicts, taken}
 use Rattle.verdicts.specs.laws.Verdict.{verdict-is, verdict-most}
 use Rattle.hgc.specs.Confirmation.{answers}

@@ -17,7 +17,9 @@ use Rattle.theory.specs.Distinct.{distinct}
 use Rattle.theory.specs.Join.{flat}
 use Rattle.theory.specs.Pad.{free, pad}
 use Rattle.header.specs.Header.{sender}
-use Rattle.register.specs.Register.{slotLength, slotsMost, slotsIn, records, inOrder}
+use Rattle.sizes.specs.Sizes.{slotLength, slotsMost}
+use Rattle.slots.specs.Slots.{slotsIn, records}
+use Rattle.register.specs.Register.{inOrder}
 use Rattle.register.specs.laws.Register.{records-pad, order-pad, slots-pad}
 use Rattle.upkeep.specs.Holds.{Holds}
 use Rattle.importer.specs.declared.Imported.{Imported}

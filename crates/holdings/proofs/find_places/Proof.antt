@@ -3,7 +3,7 @@ use borrow.Author.Needs.{needs}
 use native.Mathlib.Nat.{div-mul-le-self}
 use native.Mathlib.Omega.{arith}
 use Rattle.sizes.specs.Sizes.{slotLength}
-use Rattle.register.specs.Register.{slotsOf}
+use Rattle.slots.specs.Slots.{slotsOf}
 use Rattle.holdings.specs.Places.{placesIn}
 use Rattle.holdings.proofs.find_places.Statement.{statement}
 use Rattle.holdings.proofs.find_places.Tie as tie

@@ -10,7 +10,7 @@ use Rattle.theory.specs.Parts.{partAt}
 use Rattle.theory.specs.Pick.{good}
 use Rattle.theory.specs.laws.Table.{entry, length-table}
 use Rattle.columns.specs.Columns.{panOf}
-use Rattle.register.specs.Search.{holdsPan, placeOf}
+use Rattle.slots.specs.Search.{holdsPan, placeOf}
 use Rattle.finding.specs.Places.{placeFor}
 use Rattle.taken.specs.Taken.{takenIn}
 use Rattle.holdings.specs.Places.{placesIn}

@@ -19,7 +19,7 @@ use Rattle.theory.specs.Place.{place, placeOn}
 use Rattle.theory.specs.Distinct.{distinct}
 use Rattle.theory.specs.laws.Distinct.{distinct-head, distinct-tail}
 use Rattle.columns.specs.Columns.{panOf}
-use Rattle.register.specs.Search.{holdsPan, placeOf, ofActor, holdsForeign, heldByAnother}
+use Rattle.slots.specs.Search.{holdsPan, placeOf, ofActor, holdsForeign, heldByAnother}
 use Rattle.holdings.specs.Holdings.{storedOn, stored, storedAll, others}
 use Rattle.holdings.specs.Room.{isNew}
 

@@ -22,8 +22,8 @@ use Rattle.hgv.specs.Layout.{widthOf, linesIn, body, linesOf}
 use Rattle.hgv.specs.laws.Layout.{lines-room, lines-most}
 use Rattle.header.specs.Header.{sender}
 use Rattle.header.specs.laws.Header.{header-sender}
-use Rattle.register.specs.Register.{records, slotsIn}
-use Rattle.register.specs.Search.{ofActor, heldByAnother}
+use Rattle.slots.specs.Slots.{records, slotsIn}
+use Rattle.slots.specs.Search.{ofActor, heldByAnother}
 use Rattle.verdicts.specs.Verdict.{taken}
 use Rattle.verdicts.specs.laws.Verdict.{length-verdicts, each-faultless, each-free, taken-apart}
 use Rattle.hgc.specs.Confirmation.{confirmationLength}

@@ -13,8 +13,8 @@ use Rattle.header.specs.Header.{sender, count}
 use Rattle.claims.specs.Claims.{countHolds}
 use Rattle.hgv.specs.Layout.{linesIn}
 use Rattle.lines.specs.End.{recordOf}
-use Rattle.register.specs.Register.{slotsIn, records}
-use Rattle.register.specs.Search.{ofActor}
+use Rattle.slots.specs.Slots.{slotsIn, records}
+use Rattle.slots.specs.Search.{ofActor}
 use Rattle.verdicts.specs.Verdict.{taken}
 use Rattle.verdicts.specs.laws.Verdict.{taken-rejected}
 use Rattle.holdings.specs.Holdings.{others}

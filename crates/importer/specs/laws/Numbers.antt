@@ -9,7 +9,7 @@ use borrow.Author.Tests.{ltb-false}
 use Rattle.theory.specs.First.{None, none, more, first}
 use Rattle.theory.specs.laws.First.{first-clear, numbered}
 use Rattle.theory.specs.laws.Stopped.{at-stop, at-success, by-first, by-second, by-neither}
-use Rattle.register.specs.Register.{slotsIn}
+use Rattle.slots.specs.Slots.{slotsIn}
 use Rattle.stops.specs.Stops.{formStops, formStop}
 use Rattle.stops.specs.laws.Clear.{Clear, clear, clear-none}
 use Rattle.importer.specs.Import.{following, confirmed, roomStops, stops, numberOf, refusal, success, written, told, answer, registerAfter, hgcAfter}

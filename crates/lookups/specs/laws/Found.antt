@@ -22,17 +22,21 @@ use Rattle.theory.specs.laws.Counting.{sift-first, sift-some}
 use Rattle.theory.specs.laws.Distinct.{mem-at, distinct-places, distinct-single}
 use Rattle.theory.specs.Place.{place}
 use Rattle.theory.specs.laws.Place.{place-most, place-some, place-hit}
+use Rattle.sizes.specs.Sizes.{slotLength}
 use Rattle.times.specs.Time.{realTime}
 use Rattle.pans.specs.Pan.{pan}
 use Rattle.plates.specs.Plate.{plate, nationality}
 use Rattle.columns.specs.Columns.{panOf, plateOf, nationalityOf}
 use Rattle.lines.specs.End.{active}
 use Rattle.texts.specs.Field.{field}
-use Rattle.register.specs.Register.{slotLength, records, usedIn, inOrder}
-use Rattle.register.specs.laws.Register.{ordered, records-chop, used-fits}
-use Rattle.register.specs.Search.{holdsPan, placeOf}
+use Rattle.slots.specs.Slots.{records, usedIn}
+use Rattle.slots.specs.laws.Slots.{records-chop, used-fits}
+use Rattle.slots.specs.Search.{holdsPan, placeOf}
+use Rattle.register.specs.Register.{inOrder}
+use Rattle.register.specs.laws.Register.{ordered}
+use Rattle.lookups.specs.declared.Found.{Found}
 use Rattle.lookups.specs.Promises.{ByPan, ByPlate}
-use Rattle.lookups.specs.Lookup.{unlessRefused, panRules, panNumber, panPlace, panSlot, seen, seenIn, plateRules, plateNumber, platePlace, plateSlot}
+use Rattle.lookups.specs.Lookup.{unlessRefused, foundAt, panRules, panNumber, panPlace, panSlot, fitsPlate, fittingIn, plateRules, plateNumber, platePlace, plateSlot}
 
 -- ---- the place of a record that passes: it lies within the register, and its part is the record
 
@@ -55,6 +59,17 @@ module _ (q : List ℕ → Bool) (b : List ℕ) where
 
     found-slot : partAt slotLength (place q (records b)) b ≡ getD (records b) (place q (records b)) []
     found-slot = sym (ap (λ (R : List (List ℕ)). getD R (place q (records b)) []) (records-chop b) ∙ getD-chop slotLength (usedIn b) b (place q (records b)) found-below)
+
+-- ---- an answer, with the record at place i
+
+module _ (number i : ℕ) (found : Found) (e : found ≡ foundAt number i) where
+  pub at-number : found .number ≡ number
+  unfolding foundAt
+  at-number = ap (λ (f : Found). f .number) e
+
+  pub at-place : found .place ≡ choose (eqb number 0) i 0
+  unfolding foundAt
+  at-place = ap (λ (f : Found). f .place) e
 
 -- a refusal hands nothing back
 refused : (number : ℕ) (slot : List ℕ) → (number ≡ 0 → ⊥) → unlessRefused number slot ≡ []
@@ -108,6 +123,10 @@ module _ (b key : List ℕ) where
   unfolding panPlace placeOf
   pan-fits h = found-fits (holdsPan key) b (held (pan-found h))
 
+  pub pan-refused : (panNumber b key ≡ 0 → ⊥) → panSlot b key ≡ []
+  unfolding panSlot
+  pan-refused h = refused (panNumber b key) (getD (records b) (panPlace b key) []) h
+
   pub pan-part : panNumber b key ≡ 0 → partAt slotLength (panPlace b key) b ≡ panSlot b key
   unfolding panSlot unlessRefused panPlace placeOf
   pan-part h = rw (eq-eqb (panNumber b key) 0 h) (found-slot (holdsPan key) b (held (pan-found h)))
@@ -127,8 +146,7 @@ module _ (b key : List ℕ) where
     found-by-pan f = c .0 ∙ found-pan f
 
     pub by-pan-refused : (number ≡ 0 → ⊥) → part ≡ []
-    unfolding panSlot
-    by-pan-refused h = c .1 ∙ refused (panNumber b key) (getD (records b) (panPlace b key) []) (λ z. h (c .0 ∙ z))
+    by-pan-refused h = c .1 ∙ pan-refused (λ z. h (c .0 ∙ z))
 
 -- ---- by plate
 
@@ -137,7 +155,7 @@ pub record PlateFound (b p n t : List ℕ) : Type 0 where
   pub timed : realTime t ≡ true
   pub ordered : inOrder b ≡ true
   pub keyed : plate p && nationality n ≡ true
-  pub single : length (seenIn b p n t) ≡ 1
+  pub single : length (fittingIn b p n t) ≡ 1
 
 -- and of the part handed back
 pub record PlateAnswer (b p n t part : List ℕ) : Type 0 where
@@ -154,7 +172,7 @@ module _ (b p n t : List ℕ) where
     where
       go : None (plateRules b p n t) → PlateFound b p n t
       go (more h₂₂ (more h₂₃ (more h₄₀ (more h₄₁ (more h₄₂ none))))) =
-          let k : ℕ = length (seenIn b p n t) in
+          let k : ℕ = length (fittingIn b p n t) in
           let z : k ≡ 0 → ⊥ = eqb-false k 0 h₄₁ in
           let o : k ≤ 1 = ltb-false 1 k h₄₂ in
           record {
@@ -168,38 +186,42 @@ module _ (b p n t : List ℕ) where
   unfolding plateNumber plateRules first choose
   found-plate f = rw (f .timed, f .ordered, f .keyed, f .single)
 
-  noticed : plateNumber b p n t ≡ 0 → some (seen p n t) (records b) ≡ true
-  unfolding seenIn
-  noticed h = sift-some (seen p n t) (records b) ∙ rw (plate-found h .single)
+  fitted : plateNumber b p n t ≡ 0 → some (fitsPlate p n t) (records b) ≡ true
+  unfolding fittingIn
+  fitted h = sift-some (fitsPlate p n t) (records b) ∙ rw (plate-found h .single)
 
   -- the slot handed back is the part at its place
   pub plate-room : platePlace b p n t * slotLength ≤ length b
   unfolding platePlace
-  plate-room = place-room (seen p n t) b
+  plate-room = place-room (fitsPlate p n t) b
 
   pub plate-fits : plateNumber b p n t ≡ 0 → platePlace b p n t * slotLength + slotLength ≤ length b
   unfolding platePlace
-  plate-fits h = found-fits (seen p n t) b (noticed h)
+  plate-fits h = found-fits (fitsPlate p n t) b (fitted h)
+
+  pub plate-refused : (plateNumber b p n t ≡ 0 → ⊥) → plateSlot b p n t ≡ []
+  unfolding plateSlot
+  plate-refused h = refused (plateNumber b p n t) (getD (fittingIn b p n t) 0 []) h
 
   pub plate-part : plateNumber b p n t ≡ 0 → partAt slotLength (platePlace b p n t) b ≡ plateSlot b p n t
-  unfolding plateSlot unlessRefused seenIn platePlace
-  plate-part h = rw (eq-eqb (plateNumber b p n t) 0 h) (found-slot (seen p n t) b (noticed h) ∙ sym (sift-first (seen p n t) (records b)))
+  unfolding plateSlot unlessRefused fittingIn platePlace
+  plate-part h = rw (eq-eqb (plateNumber b p n t) 0 h) (found-slot (fitsPlate p n t) b (fitted h) ∙ sym (sift-first (fitsPlate p n t) (records b)))
 
   -- for every number and part that the contract admits
   module _ (number : ℕ) (part : List ℕ) (c : ByPlate b p n t part number) where
     pub by-plate-found : number ≡ 0 → PlateAnswer b p n t part
-    unfolding plateSlot seenIn seen
+    unfolding plateSlot fittingIn fitsPlate
     by-plate-found z =
         let h : plateNumber b p n t ≡ 0 = sym (c .0) ∙ z in
-        let q : List ℕ → Bool = seen p n t in
+        let q : List ℕ → Bool = fitsPlate p n t in
         let r : List ℕ = getD (records b) (place q (records b)) [] in
-        let e : part ≡ r = c .1 ∙ granted (plateNumber b p n t) (getD (seenIn b p n t) 0 []) h ∙ sift-first q (records b) in
-        let s₂ = and-split (eqs (plateOf r) p && eqs (nationalityOf r) n) (active t r) (found-passes q b (noticed h)) in
+        let e : part ≡ r = c .1 ∙ granted (plateNumber b p n t) (getD (fittingIn b p n t) 0 []) h ∙ sift-first q (records b) in
+        let s₂ = and-split (eqs (plateOf r) p && eqs (nationalityOf r) n) (active t r) (found-passes q b (fitted h)) in
         let s₁ = and-split (eqs (plateOf r) p) (eqs (nationalityOf r) n) (s₂ .0) in
         rw e
         (record {
           found = plate-found h;
-          among = found-among q b (noticed h);
+          among = found-among q b (fitted h);
           plate-is = eqs-true (plateOf r) p (s₁ .0);
           nationality-is = eqs-true (nationalityOf r) n (s₁ .1);
           active-is = s₂ .1;
@@ -209,8 +231,7 @@ module _ (b p n t : List ℕ) where
     found-by-plate f = c .0 ∙ found-plate f
 
     pub by-plate-refused : (number ≡ 0 → ⊥) → part ≡ []
-    unfolding plateSlot
-    by-plate-refused h = c .1 ∙ refused (plateNumber b p n t) (getD (seenIn b p n t) 0 []) (λ z. h (c .0 ∙ z))
+    by-plate-refused h = c .1 ∙ plate-refused (λ z. h (c .0 ∙ z))
 
 -- in a register in order no two places have one PAN, so a record's bytes fix its place
 pub bytes-fix : (b : List ℕ) → inOrder b ≡ true → (i j : ℕ) → i < usedIn b → j < usedIn b → getD (records b) i [] ≡ getD (records b) j [] → i ≡ j

@@ -1,5 +1,5 @@
 -- Assumes nothing.
-use Rattle.register.specs.Search.{ofActor}
+use Rattle.slots.specs.Search.{ofActor}
 use Rattle.receipts.specs.Receipt.{lineHolds}
 use borrow.Author.Needs.{needs}
 use Rattle.matching.proofs.line_holds.Statement.{statement}

@@ -21,7 +21,7 @@ use Rattle.theory.specs.laws.Tally.{tally-pick}
 use Rattle.numbers.specs.Number.{number}
 use Rattle.columns.specs.Columns.{text, panOf}
 use Rattle.lines.specs.Rules.{recordHolds}
-use Rattle.register.specs.Search.{ofActor}
+use Rattle.slots.specs.Search.{ofActor}
 use Rattle.hgv.specs.Layout.{linesOf}
 use Rattle.header.specs.Header.{sender}
 use Rattle.pairing.specs.Pairing.{marks, left}

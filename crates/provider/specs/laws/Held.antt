@@ -25,8 +25,8 @@ use Rattle.upkeep.specs.laws.Makes.{record-makes}
 use Rattle.hgv.specs.Layout.{linesIn, linesOf}
 use Rattle.hgv.specs.laws.Layout.{length-lines}
 use Rattle.header.specs.Header.{sender}
-use Rattle.register.specs.Register.{slotsIn, records}
-use Rattle.register.specs.Search.{ofActor, heldByAnother}
+use Rattle.slots.specs.Slots.{slotsIn, records}
+use Rattle.slots.specs.Search.{ofActor, heldByAnother}
 use Rattle.holdings.specs.laws.Storing.{own-free}
 use Rattle.holdings.specs.Room.{usedAfter}
 use Rattle.holdings.specs.laws.Room.{used-after}

@@ -10,7 +10,8 @@ use Rattle.theory.specs.First.{None, more, first, choose}
 use Rattle.theory.specs.laws.First.{first-clear, numbered}
 use Rattle.theory.specs.laws.Stopped.{at-stop, at-success, by-first, by-second}
 use Rattle.hgv.specs.Layout.{linesIn, lengthHolds}
-use Rattle.register.specs.Register.{slotsIn, inOrder}
+use Rattle.slots.specs.Slots.{slotsIn}
+use Rattle.register.specs.Register.{inOrder}
 use Rattle.receipts.specs.Receipt.{receiptHolds}
 use Rattle.provider.specs.Answer.{refusal, counted}
 use Rattle.provider.specs.ReadBack.{fileStops, blockStops, readNumber, readAnswer, toldTo, verdictsAfter}

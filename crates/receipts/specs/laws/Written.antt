@@ -26,7 +26,7 @@ use Rattle.texts.specs.laws.Field.{field-before}
 use Rattle.numbers.specs.Number.{decimal}
 use Rattle.numbers.specs.laws.Number.{decimal-digits}
 use Rattle.lines.specs.Rules.{recordHolds}
-use Rattle.register.specs.Search.{ofActor}
+use Rattle.slots.specs.Search.{ofActor}
 use Rattle.hgv.specs.Layout.{linesIn, lengthHolds, linesOf, footer}
 use Rattle.sizes.specs.Sizes.{lineLength, footerLength, hgcHeaderLength}
 use Rattle.frames.specs.Frames.{footerHolds}

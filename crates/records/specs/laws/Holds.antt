@@ -21,10 +21,11 @@ use Rattle.vehicles.specs.laws.Parts.{vehicle-parts}
 use Rattle.lines.specs.Rules.{L1, L5, L6, L7, L8, L9, recordHolds}
 use Rattle.lines.specs.laws.Coverage.{record-plain}
 use Rattle.lines.specs.End.{endOf, recordOf}
+use Rattle.records.specs.Slot.{lineLeast}
 use Rattle.records.specs.laws.Written.{record-front, record-rest, record-end}
 
--- the rules ask for 127 positions
-pub record-long : (l : List ℕ) → recordHolds l ≡ true → 127 ≤ length l
+-- the rules ask for every position that a record takes over
+pub record-long : (l : List ℕ) → recordHolds l ≡ true → lineLeast ≤ length l
 unfolding field
 record-long l h = omega (arith, simp (length-take, length-drop) at (run-length plain 126 (text l) (record-plain l h)))
 

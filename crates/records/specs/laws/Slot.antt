@@ -8,8 +8,10 @@ use Rattle.theory.specs.Parts.{partAt}
 use Rattle.theory.specs.laws.Parts.{whole-fits, length-part}
 use Rattle.theory.specs.Put.{putPart}
 use Rattle.theory.specs.laws.Put.{put-ap}
+use Rattle.sizes.specs.Sizes.{slotLength, timeLength}
 use Rattle.lines.specs.End.{recordOf}
-use Rattle.records.specs.Slot.{slotLength, lineLeast, timeLength, slotsIn, fits, written, putRecord}
+use Rattle.slots.specs.Slots.{slotsIn}
+use Rattle.records.specs.Slot.{lineLeast, fits, written, putRecord}
 
 -- ---- where they fit, the record is written
 

@@ -7,12 +7,14 @@ use native.Mathlib.Omega.{arith}
 use lib.ListN.{length, length-append}
 use Rattle.theory.specs.Text.{bytes}
 use Rattle.theory.specs.Every.{run}
+use Rattle.sizes.specs.Sizes.{slotEnd, timeLength}
 use Rattle.texts.specs.Field.{field, lineEnd}
 use Rattle.texts.specs.laws.Field.{field-length, field-before, field-behind, field-field, field-all}
 use Rattle.fields.specs.Field.{zeroDigit}
 use Rattle.times.specs.Order.{earlier}
 use Rattle.columns.specs.Columns.{validTo}
 use Rattle.lines.specs.End.{endOf, recordOf}
+use Rattle.records.specs.Slot.{lineLeast}
 
 -- two tests of which one is enough
 either : {A : Type 0} (a b : Bool) (x y : A) → cond a x (cond b x y) ≡ cond (a || b) x y
@@ -31,20 +33,20 @@ module _ (reception v : List ℕ) (z y : Bool) (ez : z ≡ run zeroDigit 14 v) (
   unfolding endOf
   end-cut h = sym (either (run zeroDigit 14 v) (earlier reception v) v reception ∙ rw (← ez, ← ey, h))
 
-pub length-end : (reception v : List ℕ) → length v ≡ 14 → length reception ≡ 14 → length (endOf reception v) ≡ 14
+pub length-end : (reception v : List ℕ) → length v ≡ timeLength → length reception ≡ timeLength → length (endOf reception v) ≡ timeLength
 length-end reception v h k = go (run zeroDigit 14 v || earlier reception v) refl
   where
-    go : (t : Bool) → run zeroDigit 14 v || earlier reception v ≡ t → length (endOf reception v) ≡ 14
+    go : (t : Bool) → run zeroDigit 14 v || earlier reception v ≡ t → length (endOf reception v) ≡ timeLength
     go true e = rw (← end-stays reception v _ _ refl refl e) h
     go false e = rw (← end-cut reception v _ _ refl refl e) k
 
 -- ---- the record
 
-module _ (reception l : List ℕ) (long : 127 ≤ length l) (dated : length reception ≡ 14) where
+module _ (reception l : List ℕ) (long : lineLeast ≤ length l) (dated : length reception ≡ timeLength) where
   size-front : length (field 2 100 l) ≡ 99
   size-front = field-length 2 100 l (omega arith) (omega arith)
 
-  size-end : length (endOf reception (validTo l)) ≡ 14
+  size-end : length (endOf reception (validTo l)) ≡ timeLength
   size-end = length-end reception (validTo l) (field-length 101 114 l (omega arith) (omega arith)) dated
 
   size-rest : length (field 115 127 l) ≡ 13
@@ -68,11 +70,11 @@ module _ (reception l : List ℕ) (long : 127 ≤ length l) (dated : length rece
   unfolding toEnd
   size₂ = simp length-append (omega (arith, size₁, size-end))
 
-  size₃ : length toFiller ≡ 127
+  size₃ : length toFiller ≡ lineLeast
   unfolding toFiller
   size₃ = simp length-append (omega (arith, size₂, size-rest))
 
-  pub length-record : length (recordOf reception l) ≡ 128
+  pub length-record : length (recordOf reception l) ≡ slotEnd
   unfolding recordOf toFiller toEnd toWeight
   length-record = length-append toFiller lineEnd ∙ ap (λ (n : ℕ). n + 1) size₃
 
@@ -107,12 +109,12 @@ module _ (reception l : List ℕ) (long : 127 ≤ length l) (dated : length rece
       field-before 101 114 toFiller lineEnd (omega arith) (omega arith) (omega (arith, size₃))
       ∙ field-before 101 114 toEnd (field 115 127 l) (omega arith) (omega arith) (omega (arith, size₂))
       ∙ field-behind 101 114 100 toWeight (endOf reception (validTo l)) size₁ (omega arith)
-      ∙ field-all 14 (endOf reception (validTo l)) (omega (arith, size-end))
+      ∙ field-all timeLength (endOf reception (validTo l)) (omega (arith, size-end))
 
   pub record-first : field 1 1 (recordOf reception l) ≡ bytes "1"
   unfolding recordOf field
   record-first = refl
 
-  pub record-last : field 128 128 (recordOf reception l) ≡ lineEnd
+  pub record-last : field slotEnd slotEnd (recordOf reception l) ≡ lineEnd
   unfolding recordOf toFiller toEnd toWeight
-  record-last = field-behind 128 128 127 toFiller lineEnd size₃ (omega arith) ∙ field-all 1 lineEnd (omega arith)
+  record-last = field-behind slotEnd slotEnd lineLeast toFiller lineEnd size₃ (omega arith) ∙ field-all 1 lineEnd (omega arith)

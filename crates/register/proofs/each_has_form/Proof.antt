@@ -7,12 +7,14 @@ use mathlib.Core.Bool.{cond}
 use borrow.Author.Tests.{not-true, not-false}
 use Rattle.theory.specs.laws.Parts.{whole-fits}
 use Rattle.theory.specs.laws.Walk.{EachFrom, each-start, each-on, each-off, each-end}
-use Rattle.register.specs.Register.{slotsOf, usedForm, freeForm}
+use Rattle.sizes.specs.Sizes.{slotLength}
+use Rattle.slots.specs.Slots.{slotsOf}
+use Rattle.register.specs.Register.{usedForm, freeForm}
 use Rattle.register.proofs.each_has_form.Statement.{statement}
 use Rattle.register.proofs.each_has_form.Tie as tie
 
 abbrev Inv-loop : tie.InvT-loop
-Inv-loop b used n i₀ i = (i ≤ n) × EachFrom (cond used usedForm freeForm) 128 n b i
+Inv-loop b used n i₀ i = (i ≤ n) × EachFrom (cond used usedForm freeForm) slotLength n b i
 
 abbrev μ-loop : tie.MeasureT-loop
 μ-loop b used n i₀ i = n - i
@@ -21,7 +23,7 @@ loop-holds : tie.Need-loop-holds Inv-loop μ-loop
 loop-holds c = (omega arith, each-start _ _ _ _)
 
 part-requires : tie.Need-part-requires Inv-loop μ-loop
-part-requires c κs = whole-fits 128 _ _ (c .loop-test .taken)
+part-requires c κs = whole-fits slotLength _ _ (c .loop-test .taken)
 
 returns : tie.Need-returns Inv-loop μ-loop
 unfolding slotsOf

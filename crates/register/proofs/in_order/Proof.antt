@@ -4,8 +4,9 @@ use native.Mathlib.Omega.{arith}
 use borrow.Author.Needs.{needs}
 use borrow.Author.Tests.{not-true, not-false}
 use native.Mathlib.Nat.{div-mul-le-self}
-use Rattle.register.specs.laws.Register.{used-most}
-use Rattle.register.proofs.Laws.{used-room, used-few, unsized, order-is}
+use Rattle.sizes.specs.Sizes.{slotLength}
+use Rattle.slots.specs.laws.Slots.{used-most, used-room}
+use Rattle.register.proofs.Laws.{used-few, unsized, order-is}
 use Rattle.register.proofs.in_order.Statement.{statement}
 use Rattle.register.proofs.in_order.Tie as tie
 
@@ -16,7 +17,7 @@ slots-between-requires : tie.Need-slots-between-requires
 slots-between-requires c κs = (omega arith, used-room _ _ (c .used-slots .ensures))
 
 slots-between-requires-2 : tie.Need-slots-between-requires-2
-slots-between-requires-2 c κs = (rw (c .before .before .used-slots .ensures) (used-most _), div-mul-le-self _ 128)
+slots-between-requires-2 c κs = (rw (c .before .before .used-slots .ensures) (used-most _), div-mul-le-self _ slotLength)
 
 all-different-requires : tie.Need-all-different-requires
 all-different-requires c κs =

@@ -1,14 +1,14 @@
 -- The register as its records: what "in order" says of them, and that any such records make a register in order.
 -- Assumes nothing.
 use mathlib.Core.Path.{_≡_, refl, sym, ap, _∙_}
-use mathlib.Core.Bool.{Bool, true, false, not, _&&_}
+use mathlib.Core.Bool.{Bool, true, false, _&&_}
 use mathlib.Core.List.{List, [], _∷_, map}
 use Prim.Native.Nat.{ℕ, _-_, _*_, _%_, _≤_}
 use native.Mathlib.Omega.{arith}
-use native.Mathlib.Nat.{mul-le-mul-right, div-add-mod', div-mul-le-self, mul-div-cancel, mul-mod-left}
+use native.Mathlib.Nat.{div-add-mod', mul-div-cancel, mul-mod-left}
 use lib.Dec.{eqb, leb}
-use lib.ListN.{length, take, drop, replicate, length-drop}
-use lib.Seq.{length-take-le, drop-at}
+use lib.ListN.{length, drop, replicate, length-drop}
+use lib.Seq.{drop-at}
 use borrow.Author.Tests.{eqb-true, eq-eqb, leb-true, le-leb}
 use Rattle.theory.specs.laws.Truth.{and-left, and-right, and-split}
 use Rattle.theory.specs.Same.{eqs}
@@ -22,51 +22,18 @@ use Rattle.theory.specs.Each.{Each, none, more}
 use Rattle.theory.specs.laws.Each.{each-map, each-replicate}
 use Rattle.theory.specs.Distinct.{distinct}
 use Rattle.theory.specs.Join.{flat}
-use Rattle.theory.specs.laws.Join.{flat-chop, each-chop, chop-take, chop-split}
+use Rattle.theory.specs.laws.Join.{flat-chop, each-chop, chop-split}
 use Rattle.theory.specs.Pad.{free, pad}
 use Rattle.theory.specs.laws.Pad.{chop-pad, front-pad, length-flat-pad}
-use Rattle.theory.specs.Place.{place}
-use Rattle.theory.specs.laws.Place.{place-most, length-front-place, front-chop, drop-chop}
+use Rattle.theory.specs.laws.Place.{drop-chop}
+use Rattle.sizes.specs.Sizes.{slotLength, slotEnd, slotsMost}
 use Rattle.texts.specs.Field.{field, lineEnd}
 use Rattle.fields.specs.Field.{zeroByte}
 use Rattle.columns.specs.Columns.{panOf}
 use Rattle.lines.specs.Rules.{recordHolds}
-use Rattle.register.specs.Register.{slotLength, slotsMost, slotsIn, slotsOf, marked, usedForm, freeForm, records, usedIn, usedPart, inOrder}
-
--- ---- the records of a block
-
-module _ (b : List ℕ) where
-  pub used-place : usedIn b ≡ place (λ s. not (marked s)) (chop slotLength (slotsIn b) b)
-  unfolding records slotsOf
-  used-place = length-front-place marked (chop slotLength (slotsIn b) b)
-
-  pub used-most : usedIn b ≤ slotsIn b
-  used-most = omega (arith, used-place, place-most (λ s. not (marked s)) (chop slotLength (slotsIn b) b), length-chop slotLength (slotsIn b) b)
-
-  -- they are the first slots
-  pub records-chop : records b ≡ chop slotLength (usedIn b) b
-  unfolding records slotsOf
-  records-chop = front-chop marked slotLength (slotsIn b) b ∙ rw used-place
-
-  pub used-fits : usedIn b * slotLength ≤ length b
-  used-fits = omega (arith, mul-le-mul-right slotLength used-most, div-mul-le-self (length b) slotLength)
-
--- the slots of the bytes in front are the first slots
-pub slots-front : (b : List ℕ) (n : ℕ) → n * slotLength ≤ length b → slotsOf (take (n * slotLength) b) ≡ chop slotLength n b
-unfolding slotsOf
-slots-front b n h =
-    let e : slotsIn (take (n * slotLength) b) ≡ n = rw (length-take-le (n * slotLength) b h) (mul-div-cancel n (omega arith)) in
-    rw e (chop-take slotLength n b h)
-
--- those of the used part are the records
-pub slots-used : (b : List ℕ) → slotsOf (usedPart b) ≡ records b
-unfolding usedPart
-slots-used b = slots-front b (usedIn b) (used-fits b) ∙ sym (records-chop b)
-
--- and it has as many
-pub used-slots : (b : List ℕ) → slotsIn (usedPart b) ≡ usedIn b
-unfolding slotsOf
-used-slots b = sym (length-chop slotLength (slotsIn (usedPart b)) (usedPart b)) ∙ ap length (slots-used b)
+use Rattle.slots.specs.Slots.{slotsIn, slotsOf, marked, records, usedIn}
+use Rattle.slots.specs.laws.Slots.{used-most, records-chop, used-fits}
+use Rattle.register.specs.Register.{usedForm, freeForm, inOrder}
 
 -- ---- free slots
 
@@ -142,7 +109,7 @@ module _ (b : List ℕ) where
 
 marked-used : (r : List ℕ) → usedForm r ≡ true → marked r ≡ true
 unfolding usedForm
-marked-used r h = and-left (marked r) (recordHolds r) (and-left (marked r && recordHolds r) (eqs (field 128 128 r) lineEnd) h)
+marked-used r h = and-left (marked r) (recordHolds r) (and-left (marked r && recordHolds r) (eqs (field slotEnd slotEnd r) lineEnd) h)
 
 module _ (n : ℕ) {R : List (List ℕ)} (z : Each (λ r. length r ≡ slotLength) R) (l : length R ≤ n) where
   abbrev block : List ℕ

@@ -1,5 +1,5 @@
 -- Assumes nothing.
-use Rattle.register.specs.laws.Register.{used-fits}
+use Rattle.slots.specs.laws.Slots.{used-fits}
 use borrow.Author.Needs.{needs}
 use Rattle.removing.proofs.Removing.{as-many, others-left}
 use Rattle.removing.proofs.mark_and_remove.Statement.{statement}

@@ -1,7 +1,7 @@
 -- Assumes nothing.
 use mathlib.Core.Path.{sym, _∙_}
 use Rattle.removing.proofs.Removing.{marked-yes, marked-no}
-use Rattle.register.specs.Search.{ofActor}
+use Rattle.slots.specs.Search.{ofActor}
 use borrow.Author.Needs.{needs}
 use Rattle.removing.proofs.mark_of.Statement.{statement}
 use Rattle.removing.proofs.mark_of.Tie as tie

@@ -8,7 +8,7 @@ use lib.ListN.{length}
 use Rattle.theory.specs.laws.Among.{takenFrom}
 use Rattle.theory.specs.laws.Parts.{part-fits}
 use Rattle.lines.specs.End.{recordOf}
-use Rattle.register.specs.Register.{records, slotsIn}
+use Rattle.slots.specs.Slots.{records, slotsIn}
 use Rattle.taken.specs.Taken.{takenIn}
 use Rattle.holdings.specs.Holdings.{storedAll}
 use Rattle.storing.specs.laws.Steps.{Storing}

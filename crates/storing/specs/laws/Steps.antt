@@ -8,7 +8,8 @@ use Rattle.theory.specs.Each.{Each}
 use Rattle.times.specs.Time.{realTime}
 use Rattle.lines.specs.Rules.{recordHolds}
 use Rattle.lines.specs.End.{recordOf}
-use Rattle.register.specs.Register.{slotsIn, records, usedIn, inOrder}
+use Rattle.slots.specs.Slots.{slotsIn, records, usedIn}
+use Rattle.register.specs.Register.{inOrder}
 use Rattle.holdings.specs.Holdings.{stored, storedAll}
 
 -- the records after x, where it was taken

@@ -21,6 +21,7 @@ use Rattle.theory.specs.Join.{flat}
 use Rattle.theory.specs.Put.{putPart}
 use Rattle.theory.specs.Pad.{pad}
 use Rattle.theory.specs.laws.Pad.{put-pad, push-pad}
+use Rattle.sizes.specs.Sizes.{slotLength, slotsMost}
 use Rattle.texts.specs.Field.{lineEnd}
 use Rattle.times.specs.Time.{realTime}
 use Rattle.times.specs.laws.Moment.{real-length}
@@ -33,8 +34,10 @@ use Rattle.records.specs.Slot.{putRecord}
 use Rattle.records.specs.laws.Slot.{put-there}
 use Rattle.closing.specs.Closing.{closedUp}
 use Rattle.closing.specs.laws.Closing.{closed-front}
-use Rattle.register.specs.Register.{slotLength, slotsMost, slotsIn, marked, usedForm, records, usedIn, inOrder}
-use Rattle.register.specs.laws.Register.{Ordered, ordered, used-most, slots-pad, records-pad, order-pad}
+use Rattle.slots.specs.Slots.{slotsIn, marked, records, usedIn}
+use Rattle.slots.specs.laws.Slots.{used-most}
+use Rattle.register.specs.Register.{usedForm, inOrder}
+use Rattle.register.specs.laws.Register.{Ordered, ordered, slots-pad, records-pad, order-pad}
 use Rattle.upkeep.specs.Holds.{Holds}
 
 -- ---- what is written

@@ -5,7 +5,7 @@ use native.Mathlib.Omega.{arith}
 use borrow.Author.Needs.{needs}
 use Rattle.theory.specs.laws.Parts.{part-fits}
 use Rattle.theory.specs.laws.Among.{Among, among-start, among-on, among-off, among-end}
-use Rattle.register.specs.Search.{holdsPan}
+use Rattle.slots.specs.Search.{holdsPan}
 use Rattle.verdicts.proofs.is_named.Statement.{statement}
 use Rattle.verdicts.proofs.is_named.Tie as tie
 

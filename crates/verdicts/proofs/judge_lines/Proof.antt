@@ -6,7 +6,7 @@ use borrow.Author.Needs.{needs}
 use lib.ListN.{length, length-set}
 use Rattle.theory.specs.laws.Scan.{Judged, judged-start, judged-turn, judged-end}
 use Rattle.theory.specs.laws.Parts.{part-fits}
-use Rattle.register.specs.Register.{slotsOf}
+use Rattle.slots.specs.Slots.{slotsOf}
 use Rattle.verdicts.specs.Verdict.{verdict, verdictsOf}
 use Rattle.verdicts.proofs.judge_lines.Statement.{statement}
 use Rattle.verdicts.proofs.judge_lines.Tie as tie

@@ -18,7 +18,7 @@ use Rattle.columns.specs.Columns.{panOf}
 use Rattle.lines.specs.Rules.{lineRules, lineFault}
 use Rattle.lines.specs.Faultless.{Faultless}
 use Rattle.lines.specs.laws.Faultless.{faultless}
-use Rattle.register.specs.Search.{holdsPan, heldByAnother}
+use Rattle.slots.specs.Search.{holdsPan, heldByAnother}
 use Rattle.hgv.specs.Layout.{linesIn, linesOf}
 use Rattle.hgv.specs.laws.Layout.{length-lines}
 use Rattle.header.specs.Header.{sender}

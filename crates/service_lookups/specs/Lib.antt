@@ -1,0 +1,3 @@
+pub mod Stands
+pub mod Promises
+pub mod laws
