@@ -1,24 +1,19 @@
 //! docs/BELIEVE.md names each definition that has to be believed, in the file that holds it, and no other.
 
+use graftspindle_checks::sources::{root, text};
 use std::collections::BTreeSet;
-use std::fs::read_to_string;
-use std::path::{Path, PathBuf};
 use std::process::Command;
 
 /// A file of the crates' specs and a definition that it holds.
 type Named = (String, String);
 
-fn docs() -> PathBuf {
-    Path::new(env!("CARGO_MANIFEST_DIR")).join("../../docs")
-}
-
 /// What `docs/believed` prints: a file, a colon, and its definitions.
 fn found() -> BTreeSet<Named> {
-    let told = Command::new(docs().join("believed")).output().expect("docs/believed runs");
+    let told = Command::new(root().join("docs/believed")).output().expect("docs/believed runs");
     assert!(told.status.success(), "{}", String::from_utf8_lossy(&told.stderr));
-    let text = String::from_utf8(told.stdout).expect("names are text");
+    let lines = String::from_utf8(told.stdout).expect("names are text");
     let mut all = BTreeSet::new();
-    for line in text.lines() {
+    for line in lines.lines() {
         let (file, names) = line.split_once(": ").unwrap_or_else(|| panic!("{line}"));
         all.extend(names.split(' ').map(|name| (file.to_string(), name.to_string())));
     }
@@ -27,7 +22,7 @@ fn found() -> BTreeSet<Named> {
 
 /// What the page names: each row ends in its definitions, and a link to their file.
 fn named() -> BTreeSet<Named> {
-    let page = read_to_string(docs().join("BELIEVE.md")).expect("the page is there");
+    let page = text(&root().join("docs/BELIEVE.md"));
     let mut all = BTreeSet::new();
     for row in page.lines().filter(|row| row.ends_with(".antt) |")) {
         let cells: Vec<&str> = row.trim_matches('|').rsplitn(3, " | ").collect();

@@ -1,29 +1,10 @@
 //! Each public function's contract is one promise under the function's own name, and two outcomes that keep it are one by a
 //! law about that name; and what docs/PROOFS.md names is there.
 
+use graftspindle_checks::sources::{files, root, text};
 use std::collections::BTreeSet;
-use std::fs::{read_dir, read_to_string};
-use std::path::{Path, PathBuf};
-
-fn root() -> PathBuf {
-    Path::new(env!("CARGO_MANIFEST_DIR")).join("../..")
-}
-
-fn text(path: &Path) -> String {
-    read_to_string(path).unwrap_or_else(|e| panic!("{}: {e}", path.display()))
-}
-
-/// Files below a folder with this ending.
-fn files(folder: &Path, ending: &str, into: &mut Vec<PathBuf>) {
-    for entry in read_dir(folder).into_iter().flatten() {
-        let path = entry.expect("an entry").path();
-        if path.is_dir() {
-            files(&path, ending, into);
-        } else if path.to_string_lossy().ends_with(ending) {
-            into.push(path);
-        }
-    }
-}
+use std::fs::read_dir;
+use std::path::PathBuf;
 
 /// `has_text`: `HasText`.
 fn in_capitals(name: &str) -> String {
@@ -75,11 +56,9 @@ fn each_contract_is_one_promise_with_its_law() {
 
 /// Every name that is declared in a specs or proofs file, and every function.
 fn declared() -> BTreeSet<String> {
-    let mut found = Vec::new();
-    files(&root().join("crates"), ".antt", &mut found);
-    files(&root().join("crates"), ".rt", &mut found);
+    let found = [".antt", ".rt"].map(|ending| files(&root().join("crates"), ending));
     let mut all = BTreeSet::new();
-    for file in found {
+    for file in found.concat() {
         for line in text(&file).lines() {
             let words: Vec<&str> = line.split_whitespace().collect();
             let plain = ["abbrev", "unfoldable", "pub", "record", "data", "fn", "extern", "\"C\""];
