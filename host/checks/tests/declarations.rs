@@ -1,6 +1,7 @@
 //! What the wrapper declares as `extern "C"` is what the crates export: the same functions, and for each the same parameters
-//! in the same order, under the same names and of the same widths, and the same result.
+//! in the same order, under the same names and of the same widths, and the same result. Its sizes and modes are the crates'.
 
+use graftspindle::{sizes, Mode};
 use graftspindle_checks::sources::{files, root, text};
 use std::collections::BTreeMap;
 use std::fs::read_dir;
@@ -125,4 +126,23 @@ fn a_changed_declaration_is_told_apart() {
         declared(&right.replacen(from, to, 1), &mut changed);
         assert_ne!(changed, exports, "{from} as {to}");
     }
+}
+
+/// The number that a constant of the crate `sizes` has.
+fn size(name: &str) -> u64 {
+    let source = text(&root().join("crates/sizes/src/lib.rt"));
+    let head = format!("pub const {name}: ");
+    let line =
+        source.lines().find_map(|line| line.strip_prefix(&head)).unwrap_or_else(|| panic!("{name}: no such size"));
+    let (_, number) = line.trim_end_matches(';').split_once(" = ").expect("a constant");
+    number.parse().unwrap_or_else(|_| panic!("{name}: {number}"))
+}
+
+#[test]
+fn sizes_and_modes_are_the_crates() {
+    let here = [("HEADER", sizes::HEADER), ("LINE", sizes::LINE), ("SLOT", sizes::SLOT)];
+    for (name, bytes) in here {
+        assert_eq!(bytes as u64, size(name), "{name}");
+    }
+    assert_eq!([Mode::Incremental.number(), Mode::Full.number()], [size("INCREMENTAL"), size("FULL")]);
 }

@@ -32,6 +32,7 @@ mod provider;
 pub mod raw;
 mod reason;
 mod register;
+pub mod sizes;
 
 pub use mode::Mode;
 pub use number::Number;
@@ -39,6 +40,3 @@ pub use numbered::Undefined;
 pub use provider::read_back;
 pub use reason::{Reason, Verdict};
 pub use register::{rows_in_form, Counts, Import, Register};
-
-/// The bytes of a slot of a register, and of a line of an HGV.
-pub const SLOT: usize = 128;

@@ -1,7 +1,8 @@
 //! The register of a road, or a provider's copy of his part of it, as one value.
 
 use crate::number::unless_refused;
-use crate::{raw, Mode, Number, SLOT};
+use crate::sizes::SLOT;
+use crate::{raw, Mode, Number};
 
 /// What is handed over with a register to import an HGV into it.
 #[derive(Clone, Copy, Debug)]
@@ -25,7 +26,7 @@ pub struct Counts {
     pub rejected: u64,
 }
 
-/// A register: slots of 128 bytes, in one block.
+/// A register: slots in one block, the used ones in front.
 #[derive(Clone, Debug, PartialEq, Eq)]
 pub struct Register(Vec<u8>);
 

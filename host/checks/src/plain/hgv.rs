@@ -33,7 +33,7 @@ pub fn version(hgv: &[u8]) -> &[u8] {
     positions(hgv, 95, 100)
 }
 
-pub fn is_25(hgv: &[u8]) -> bool {
+fn is_25(hgv: &[u8]) -> bool {
     if hgv.len() < HEADER + FOOTER {
         return true;
     }
@@ -54,7 +54,7 @@ fn previous_right(previous: &[u8], sender: &[u8]) -> bool {
 }
 
 /// Every byte of the header but the version belongs to a field with a form.
-pub fn is_26(hgv: &[u8]) -> bool {
+fn is_26(hgv: &[u8]) -> bool {
     let sender = sender(hgv);
     let right = hgv[0] == b'0'
         && all_digits(sender)
@@ -69,7 +69,7 @@ pub fn is_26(hgv: &[u8]) -> bool {
     !right
 }
 
-pub fn is_27(hgv: &[u8]) -> bool {
+fn is_27(hgv: &[u8]) -> bool {
     version(hgv) != b"120001" && version(hgv) != b"220001"
 }
 
@@ -101,6 +101,16 @@ fn line_right(line: &[u8]) -> bool {
 
 pub fn is_32(hgv: &[u8]) -> bool {
     !lines(hgv).into_iter().all(line_right)
+}
+
+/// The first of 25 to 27, or 0: a later one reads what the earlier ones have found in form.
+pub fn stop_25_to_27(hgv: &[u8]) -> u64 {
+    match hgv {
+        _ if is_25(hgv) => 25,
+        _ if is_26(hgv) => 26,
+        _ if is_27(hgv) => 27,
+        _ => 0,
+    }
 }
 
 /// The first of 30, 31, 32, or 0.

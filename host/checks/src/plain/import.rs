@@ -35,22 +35,12 @@ pub fn import_stop_to_32(
 }
 
 fn import_stop_25_to_32(mode: u64, rows: &[u8], hgv: &[u8]) -> u64 {
-    if hgv::is_25(hgv) {
-        return 25;
+    match hgv::stop_25_to_27(hgv) {
+        0 if hgv::is_28(mode, hgv) => 28,
+        0 if hgv::is_29_receiver(hgv) || rows::rows_of(rows, hgv::sender(hgv)).is_empty() => 29,
+        0 => hgv::stop_30_to_32(hgv),
+        stop => stop,
     }
-    if hgv::is_26(hgv) {
-        return 26;
-    }
-    if hgv::is_27(hgv) {
-        return 27;
-    }
-    if hgv::is_28(mode, hgv) {
-        return 28;
-    }
-    if hgv::is_29_receiver(hgv) || rows::rows_of(rows, hgv::sender(hgv)).is_empty() {
-        return 29;
-    }
-    hgv::stop_30_to_32(hgv)
 }
 
 /// The number of the rule each line breaks first, 0 for a taken one; none where one of the

@@ -12,19 +12,11 @@ pub fn count_stopped(number: u64) -> Counted {
 
 /// The first of 25 to 27, 29 (receiver only), 30 to 32, or 0.
 pub fn read_back_stop_to_32(hgv: &[u8]) -> u64 {
-    if hgv::is_25(hgv) {
-        return 25;
+    match hgv::stop_25_to_27(hgv) {
+        0 if hgv::is_29_receiver(hgv) => 29,
+        0 => hgv::stop_30_to_32(hgv),
+        stop => stop,
     }
-    if hgv::is_26(hgv) {
-        return 26;
-    }
-    if hgv::is_27(hgv) {
-        return 27;
-    }
-    if hgv::is_29_receiver(hgv) {
-        return 29;
-    }
-    hgv::stop_30_to_32(hgv)
 }
 
 /// The clauses that make 52; none where an earlier stop of read back is given.
@@ -68,25 +60,13 @@ pub fn update_stop_to_32(mode: u64, copy: &[u8], hgv: &[u8], in_order: InOrder) 
     if !in_order(copy) {
         return 23;
     }
-    if hgv::is_25(hgv) {
-        return 25;
+    match hgv::stop_25_to_27(hgv) {
+        0 if hgv::is_28(mode, hgv) => 28,
+        0 if hgv::is_29_receiver(hgv) => 29,
+        0 if is_51(copy, hgv) => 51,
+        0 => hgv::stop_30_to_32(hgv),
+        stop => stop,
     }
-    if hgv::is_26(hgv) {
-        return 26;
-    }
-    if hgv::is_27(hgv) {
-        return 27;
-    }
-    if hgv::is_28(mode, hgv) {
-        return 28;
-    }
-    if hgv::is_29_receiver(hgv) {
-        return 29;
-    }
-    if is_51(copy, hgv) {
-        return 51;
-    }
-    hgv::stop_30_to_32(hgv)
 }
 
 /// 51: another actor than the sender in the copy.

@@ -5,7 +5,8 @@ use std::path::Path;
 use super::arguments::Arguments;
 use super::{texts, Answer, Command};
 use crate::files::Disk;
-use graftspindle::{Verdict, SLOT};
+use graftspindle::sizes::{HEADER, LINE};
+use graftspindle::Verdict;
 
 pub const READ_BACK: Command = Command {
     name: "read-back",
@@ -15,9 +16,9 @@ pub const READ_BACK: Command = Command {
     run,
 };
 
-/// The lines of an HGV, behind its header.
+/// The lines of an HGV in form, and its footer behind them.
 fn lines(hgv: &[u8]) -> impl Iterator<Item = &[u8]> {
-    hgv.chunks(SLOT).skip(1)
+    hgv[HEADER..].chunks(LINE)
 }
 
 fn shown(number: usize, line: &[u8], verdict: Verdict) -> String {

@@ -1,7 +1,8 @@
 //! The exit status is the definition's number, and one line says it in words; nothing is changed.
 
 use crate::common::*;
-use graftspindle::{raw, Mode, Number, Reason, Register, Verdict, SLOT};
+use graftspindle::sizes::SLOT;
+use graftspindle::{raw, Mode, Number, Reason, Register, Verdict};
 use graftspindle_checks::sample;
 
 fn words_of(number: u64) -> &'static str {
