@@ -1,5 +1,5 @@
 //! Each public function's contract is one promise under the function's own name, and two outcomes that keep it are one by a
-//! law about that name; and what docs/PROOFS.md names is there.
+//! law about that name; and what docs/PROOFS.md and docs/GLOSSARY.md name is there.
 
 use graftspindle_checks::sources::{files, root, text};
 use std::collections::BTreeSet;
@@ -54,12 +54,11 @@ fn each_contract_is_one_promise_with_its_law() {
     assert!(count > 50, "{count} public functions");
 }
 
-/// Every name that is declared in a specs or proofs file, and every function.
-fn declared() -> BTreeSet<String> {
-    let found = [".antt", ".rt"].map(|ending| files(&root().join("crates"), ending));
+/// Every name that is declared in one of these files: definitions, laws, functions.
+fn declared(sources: &[PathBuf]) -> BTreeSet<String> {
     let mut all = BTreeSet::new();
-    for file in found.concat() {
-        for line in text(&file).lines() {
+    for file in sources {
+        for line in text(file).lines() {
             let words: Vec<&str> = line.split_whitespace().collect();
             let plain = ["abbrev", "unfoldable", "pub", "record", "data", "fn", "extern", "\"C\""];
             if let Some(name) = words.iter().find(|w| !plain.contains(w)) {
@@ -70,31 +69,59 @@ fn declared() -> BTreeSet<String> {
     all
 }
 
+/// The rows of the tables of a page.
+fn rows(page: &str) -> Vec<String> {
+    let page = text(&root().join("docs").join(page));
+    page.lines().filter(|line| line.starts_with("| ")).map(str::to_string).collect()
+}
+
+/// What stands between backticks.
+fn quoted(words: &str) -> Vec<&str> {
+    words.split('`').skip(1).step_by(2).collect()
+}
+
+/// A path in `crates/`, a file of specs or proofs, an edit, a crate, a number, or a name that is declared.
+fn is_there(name: &str, known: &BTreeSet<String>) -> bool {
+    let bare = name.split(' ').next().expect("a word");
+    let crates = root().join("crates");
+    match bare.split_once('/') {
+        Some(("crates", _)) => root().join(bare).exists(),
+        Some(("laws", _)) => true,
+        Some((of, rest)) => {
+            let folder = crates.join(of);
+            folder.join(format!("{rest}.antt")).exists() || folder.join(format!("must-fail/{rest}.edit")).exists()
+        }
+        None => known.contains(bare) || crates.join(bare).exists() || bare.chars().all(|c| c.is_ascii_digit()),
+    }
+}
+
 #[test]
-fn what_proofs_names_is_there() {
-    let known = declared();
-    let page = text(&root().join("docs/PROOFS.md"));
+fn what_the_pages_name_is_there() {
+    let known = declared(&[".antt", ".rt"].map(|ending| files(&root().join("crates"), ending)).concat());
+    for (page, least) in [("PROOFS.md", 200), ("GLOSSARY.md", 40)] {
+        let mut count = 0;
+        for row in rows(page) {
+            for name in quoted(&row) {
+                count += 1;
+                assert!(is_there(name, &known), "{name}: in docs/{page}, and nowhere in the crates\n{row}");
+            }
+        }
+        assert!(count > least, "{page}: {count} names");
+    }
+}
+
+/// A row of a theorem ends in its names, and the files that hold them.
+#[test]
+fn theorems_stand_where_the_glossary_says() {
     let mut count = 0;
-    for row in page.lines().filter(|l| l.starts_with("| ")) {
-        for name in row.split('`').skip(1).step_by(2) {
+    for row in rows("GLOSSARY.md").iter().filter(|row| row.starts_with("| T")) {
+        let cells: Vec<&str> = row.trim_matches('|').rsplitn(3, " | ").collect();
+        let path = |place: &&str| root().join("crates").join(format!("{place}.antt"));
+        let held = declared(&quoted(cells[0]).iter().map(path).collect::<Vec<PathBuf>>());
+        for name in quoted(cells[1]) {
             count += 1;
-            let bare = name.split(' ').next().expect("a word");
-            let there = match bare.split_once('/') {
-                Some(("crates", _)) => root().join(bare).exists(),
-                Some(("laws", _)) => true,
-                Some((of, rest)) => {
-                    let folder = root().join("crates").join(of);
-                    folder.join(format!("{rest}.antt")).exists()
-                        || folder.join(format!("must-fail/{rest}.edit")).exists()
-                }
-                None => {
-                    known.contains(bare)
-                        || root().join("crates").join(bare).exists()
-                        || bare.chars().all(|c| c.is_ascii_digit())
-                }
-            };
-            assert!(there, "{name}: in docs/PROOFS.md, and nowhere in the crates\n{row}");
+            assert!(held.contains(name), "{name} does not stand there\n{row}");
         }
     }
-    assert!(count > 200, "{count} names");
+    assert!(count > 30, "{count} theorems");
 }
