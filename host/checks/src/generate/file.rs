@@ -14,7 +14,7 @@ pub struct Header {
     pub version: Vec<u8>,
 }
 
-pub fn sequence_name(sender: &[u8], date: &[u8], within_day: usize) -> Vec<u8> {
+fn sequence_name(sender: &[u8], date: &[u8], within_day: usize) -> Vec<u8> {
     let mut name = b"HGV".to_vec();
     name.extend(sender);
     name.extend(date);

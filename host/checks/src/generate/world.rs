@@ -3,7 +3,7 @@
 
 use super::rng::Rng;
 
-pub const ACTORS: [&[u8]; 5] = [b"900123", b"900124", b"000002", b"000000", b"990001"];
+const ACTORS: [&[u8]; 5] = [b"900123", b"900124", b"000002", b"000000", b"990001"];
 
 #[derive(Clone)]
 pub struct Row {

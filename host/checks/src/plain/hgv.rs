@@ -6,7 +6,7 @@ use super::words::*;
 
 pub const HEADER: usize = 128;
 pub const FOOTER: usize = 64;
-pub const MOST_LINES: usize = 8192;
+const MOST_LINES: usize = 8192;
 
 /// The body, from byte 129 to the footer.
 pub fn body(hgv: &[u8]) -> &[u8] {
@@ -82,7 +82,7 @@ pub fn is_29_receiver(hgv: &[u8]) -> bool {
     receiver(hgv) != b"000002"
 }
 
-pub fn is_30(hgv: &[u8]) -> bool {
+fn is_30(hgv: &[u8]) -> bool {
     number_of(positions(hgv, 66, 80)) != Some(lines(hgv).len() as u64)
 }
 
@@ -91,7 +91,7 @@ pub fn footer_right(footer: &[u8]) -> bool {
     footer.len() == FOOTER && footer[0] == b'2' && all_zeros(positions(footer, 2, 63)) && footer[63] == LF
 }
 
-pub fn is_31(hgv: &[u8]) -> bool {
+fn is_31(hgv: &[u8]) -> bool {
     !footer_right(&hgv[hgv.len() - FOOTER..])
 }
 
@@ -99,7 +99,7 @@ fn line_right(line: &[u8]) -> bool {
     line[0] == b'1' && line[127] == LF && positions(line, 2, 127).iter().all(|&b| b >= 32)
 }
 
-pub fn is_32(hgv: &[u8]) -> bool {
+fn is_32(hgv: &[u8]) -> bool {
     !lines(hgv).into_iter().all(line_right)
 }
 

@@ -4,7 +4,7 @@ use super::line;
 use super::words::*;
 
 pub const SLOT: usize = 128;
-pub const MOST_SLOTS: usize = 8192;
+const MOST_SLOTS: usize = 8192;
 
 pub fn length_right(register: &[u8]) -> bool {
     register.len().is_multiple_of(SLOT) && register.len() / SLOT <= MOST_SLOTS
@@ -15,7 +15,7 @@ fn has_used_form(slot: &[u8]) -> bool {
 }
 
 /// What a used slot must be, the other slots left aside.
-pub fn record_right(slot: &[u8]) -> bool {
+fn record_right(slot: &[u8]) -> bool {
     has_used_form(slot) && all_digits(line::actor(slot)) && line::holds_l1_l5_to_l10(slot)
 }
 
@@ -82,7 +82,7 @@ pub fn after_mode_1(register: &[u8], taken: &[&[u8]], reception: &[u8]) -> Vec<V
 }
 
 /// Mode 2: the sender's records go, the others close up, taken lines follow.
-pub fn after_mode_2(register: &[u8], sender: &[u8], taken: &[&[u8]], reception: &[u8]) -> Vec<Vec<u8>> {
+fn after_mode_2(register: &[u8], sender: &[u8], taken: &[&[u8]], reception: &[u8]) -> Vec<Vec<u8>> {
     let others = used_slots(register).into_iter().filter(|slot| line::actor(slot) != sender);
     let mut after: Vec<Vec<u8>> = others.map(|slot| slot.to_vec()).collect();
     after.extend(taken.iter().map(|line| record_of(line, reception)));

@@ -2,8 +2,8 @@
 
 use super::words::*;
 
-pub const ROW: usize = 24;
-pub const MOST_ROWS: usize = 64;
+const ROW: usize = 24;
+const MOST_ROWS: usize = 64;
 
 fn bin_and_extension(row: &[u8]) -> &[u8] {
     positions(row, 1, 14)
