@@ -1,6 +1,7 @@
 //! Links the proved libraries, one for each crate of what Rust calls, that `host/build` writes.
 
 use std::path::{Path, PathBuf};
+use std::process::Command;
 
 /// `NAME` of each `libNAME.a` in the folder, in the order of their names; none where there is no such folder.
 fn libraries(folder: &Path) -> Vec<String> {
@@ -11,15 +12,28 @@ fn libraries(folder: &Path) -> Vec<String> {
     names
 }
 
+/// The crates that have to be there; `service` alone where the project around this package cannot be asked.
+fn needed(host: &Path) -> Vec<String> {
+    let told = Command::new(host.join("exporting")).output().map(|told| told.stdout).unwrap_or_default();
+    let names: Vec<String> = String::from_utf8_lossy(&told).split_whitespace().map(str::to_string).collect();
+    if names.is_empty() {
+        vec!["service".to_string()]
+    } else {
+        names
+    }
+}
+
 fn main() {
     let here = PathBuf::from(std::env::var_os("CARGO_MANIFEST_DIR").expect("cargo names the package's folder"));
     let host = here.parent().expect("the package lies in host/");
     let folder = host.join("target/proved");
     println!("cargo::rerun-if-changed={}", folder.display());
+    println!("cargo::rerun-if-changed={}", host.join("../crates.txt").display());
     let names = libraries(&folder);
-    if names.is_empty() {
+    let missing: Vec<String> = needed(host).into_iter().filter(|name| !names.contains(name)).collect();
+    if !missing.is_empty() {
         let (folder, command) = (folder.display(), host.join("build"));
-        println!("cargo::error=the proved library is missing: there is no lib*.a in {folder}");
+        println!("cargo::error=the proved library is missing: {folder} lacks lib{}.a", missing.join(".a, lib"));
         println!(
             "cargo::error=this command makes it, and needs the Rattle toolchain (rt) on the path: {}",
             command.display()
