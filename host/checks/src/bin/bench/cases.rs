@@ -1,0 +1,157 @@
+//! The calls that are timed, each with so many lines and as many slots.
+
+use graftspindle::raw::Counted;
+use graftspindle_checks::engines::{Engine, ENGINES};
+use graftspindle_checks::sample;
+
+pub struct Case {
+    pub name: String,
+    pub mode: u64,
+    /// The blocks that may be written, and those that are only read.
+    pub written: Vec<Vec<u8>>,
+    pub read: Vec<Vec<u8>>,
+    pub call: fn(&Engine, &Case, &mut [Vec<u8>]) -> [u64; 4],
+    pub expected: [u64; 4],
+}
+
+type Lines = fn(usize) -> String;
+
+fn file(size: usize, line: Lines) -> Vec<u8> {
+    sample::hgv_of(&(0..size).map(line).collect::<Vec<_>>())
+}
+
+fn free(size: usize) -> Vec<u8> {
+    vec![0; 128 * size]
+}
+
+fn full(size: usize) -> Vec<u8> {
+    (0..size).map(sample::line).collect::<String>().into_bytes()
+}
+
+/// Every second line is faulty.
+fn mixed_line(i: usize) -> String {
+    if i.is_multiple_of(2) {
+        sample::line(i)
+    } else {
+        sample::faulty_line(i)
+    }
+}
+
+fn import(engine: &Engine, case: &Case, blocks: &mut [Vec<u8>]) -> [u64; 4] {
+    let [register, hgc] = blocks else { unreachable!() };
+    let done = (engine.import)(case.mode, sample::RECEPTION, register, &case.read[0], &case.read[1], hgc);
+    [done.number, done.taken, done.rejected, done.length]
+}
+
+fn imports(size: usize) -> Vec<Case> {
+    let n = size as u64;
+    let kinds: [(&str, Vec<u8>, Lines, u64); 3] = [
+        ("new lines, free register", free(size), sample::line, 0),
+        ("held lines, full register", full(size), sample::line, 0),
+        ("rejected lines, full register", full(size), sample::faulty_line, n),
+    ];
+    let case = |(kind, register, line, rejected): &(&str, Vec<u8>, Lines, u64), mode| Case {
+        name: format!("import, {kind}, mode {mode}"),
+        mode,
+        written: vec![register.clone(), vec![0xAA; 174 + 130 * size]],
+        read: vec![sample::row(), file(size, *line)],
+        call: import,
+        expected: [0, n - rejected, *rejected, 174 + 130 * rejected],
+    };
+    kinds.iter().flat_map(|kind| [case(kind, 1), case(kind, 2)]).collect()
+}
+
+fn by_pan(engine: &Engine, case: &Case, _: &mut [Vec<u8>]) -> [u64; 4] {
+    let (number, part) = (engine.by_pan)(&case.read[0], &case.read[1]);
+    [number, part.start as u64, part.len() as u64, 0]
+}
+
+fn by_plate(engine: &Engine, case: &Case, _: &mut [Vec<u8>]) -> [u64; 4] {
+    let (number, part) = (engine.by_plate)(&case.read[0], &case.read[1], b"DE ", sample::RECEPTION);
+    [number, part.start as u64, part.len() as u64, 0]
+}
+
+fn lookups(size: usize) -> Vec<Case> {
+    let start = 128 * (size as u64 - 1);
+    let pan = |i| format!("{:<19}", sample::pan(i));
+    let calls: [(&str, String, _, [u64; 4]); 4] = [
+        ("PAN, the last record", pan(size - 1), by_pan as fn(&Engine, &Case, &mut [Vec<u8>]) -> _, [0, start, 128, 0]),
+        ("PAN, none", pan(size), by_pan, [41, 0, 0, 0]),
+        ("plate, the last record", sample::plate(size - 1), by_plate, [0, start, 128, 0]),
+        ("plate, none", sample::plate(size), by_plate, [41, 0, 0, 0]),
+    ];
+    let case = |(key, text, call, expected): (&str, String, _, _)| Case {
+        name: format!("lookup by {key}"),
+        mode: 0,
+        written: Vec::new(),
+        read: vec![full(size), text.into_bytes()],
+        call,
+        expected,
+    };
+    calls.into_iter().map(case).collect()
+}
+
+/// The HGC that an import of the file into a free register writes.
+fn confirmed(size: usize, hgv: &[u8]) -> Vec<u8> {
+    let mut hgc = vec![0; 174 + 130 * size];
+    let done = (ENGINES[1].import)(1, sample::RECEPTION, &mut free(size), &sample::row(), hgv, &mut hgc);
+    hgc.truncate(done.length as usize);
+    hgc
+}
+
+fn counted(done: Counted) -> [u64; 4] {
+    [done.number, done.taken, done.rejected, 0]
+}
+
+fn read_back(engine: &Engine, case: &Case, blocks: &mut [Vec<u8>]) -> [u64; 4] {
+    counted((engine.read_back)(&case.read[0], &case.read[1], &mut blocks[0]))
+}
+
+fn update(engine: &Engine, case: &Case, blocks: &mut [Vec<u8>]) -> [u64; 4] {
+    counted((engine.update)(case.mode, &mut blocks[0], &case.read[0], &case.read[1]))
+}
+
+/// The three kinds of file, with how many of their lines are rejected.
+fn files(size: usize) -> [(&'static str, Vec<u8>, u64); 3] {
+    let n = size as u64;
+    [
+        ("all taken", file(size, sample::line), 0),
+        ("every second taken", file(size, mixed_line), n / 2),
+        ("all rejected", file(size, sample::faulty_line), n),
+    ]
+}
+
+fn read_backs(size: usize) -> Vec<Case> {
+    let case = |(kind, hgv, rejected): (&str, Vec<u8>, u64)| Case {
+        name: format!("read back, {kind}"),
+        mode: 0,
+        written: vec![vec![0xAA; size]],
+        read: vec![hgv.clone(), confirmed(size, &hgv)],
+        call: read_back,
+        expected: [0, size as u64 - rejected, rejected, 0],
+    };
+    files(size).into_iter().map(case).collect()
+}
+
+fn updates(size: usize) -> Vec<Case> {
+    let [taken, mixed, rejected] = files(size);
+    let case = |(kind, hgv, rejected): &(&str, Vec<u8>, u64), copy: &str, block: Vec<u8>, mode| Case {
+        name: format!("update, {kind}, {copy} copy, mode {mode}"),
+        mode,
+        written: vec![block],
+        read: vec![hgv.clone(), confirmed(size, hgv)],
+        call: update,
+        expected: [0, size as u64 - rejected, *rejected, 0],
+    };
+    vec![
+        case(&taken, "free", free(size), 1),
+        case(&taken, "full", full(size), 1),
+        case(&taken, "full", full(size), 2),
+        case(&mixed, "full", full(size), 1),
+        case(&rejected, "full", full(size), 2),
+    ]
+}
+
+pub fn all(size: usize) -> Vec<Case> {
+    [imports(size), lookups(size), read_backs(size), updates(size)].into_iter().flatten().collect()
+}

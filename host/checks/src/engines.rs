@@ -1,0 +1,55 @@
+//! All implementations of the definition under one form: `plain`, `hashed` and the proved one.
+
+use std::ops::Range;
+
+use crate::{hashed, plain};
+use graftspindle::raw::{self, Counted, Imported};
+
+pub type Import = fn(u64, &[u8], &mut [u8], &[u8], &[u8], &mut [u8]) -> Imported;
+
+/// A lookup's number, and where its slot stands in the register.
+pub type Found = (u64, Range<usize>);
+
+pub type ByPan = fn(&[u8], &[u8]) -> Found;
+pub type ByPlate = fn(&[u8], &[u8], &[u8], &[u8]) -> Found;
+
+/// One implementation. A further one is tested by an entry more in `ENGINES`.
+pub struct Engine {
+    pub name: &'static str,
+    pub import: Import,
+    pub by_pan: ByPan,
+    pub by_plate: ByPlate,
+    pub read_back: fn(&[u8], &[u8], &mut [u8]) -> Counted,
+    pub update: fn(u64, &mut [u8], &[u8], &[u8]) -> Counted,
+    pub in_order: fn(&[u8]) -> bool,
+}
+
+pub const ENGINES: &[Engine] = &[
+    Engine {
+        name: "plain",
+        import: plain::import,
+        by_pan: plain::by_pan,
+        by_plate: plain::by_plate,
+        read_back: plain::read_back,
+        update: plain::update,
+        in_order: plain::in_order,
+    },
+    Engine {
+        name: "hashed",
+        import: hashed::import,
+        by_pan: hashed::by_pan,
+        by_plate: hashed::by_plate,
+        read_back: hashed::read_back,
+        update: hashed::update,
+        in_order: hashed::in_order,
+    },
+    Engine {
+        name: "proved",
+        import: raw::import,
+        by_pan: raw::by_pan,
+        by_plate: raw::by_plate,
+        read_back: raw::read_back,
+        update: raw::update,
+        in_order: |register| raw::by_pan(register, b"0                  ").0 != 23,
+    },
+];

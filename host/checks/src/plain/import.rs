@@ -1,0 +1,90 @@
+//! The import: its stops, and what it writes.
+
+use super::register::{self, after, in_order, InOrder};
+use super::words::is_real_time;
+use super::{confirmation, hgv, rows, verdict};
+use graftspindle::raw::Imported;
+
+/// A stop returns its number and zero for the rest.
+pub fn import_stopped(number: u64) -> Imported {
+    Imported { number, taken: 0, rejected: 0, length: 0 }
+}
+
+/// The first of 21 to 32, or 0.
+pub fn import_stop_to_32(
+    mode: u64,
+    reception: &[u8],
+    register: &[u8],
+    rows: &[u8],
+    hgv: &[u8],
+    in_order: InOrder,
+) -> u64 {
+    if mode != 1 && mode != 2 {
+        return 21;
+    }
+    if !is_real_time(reception) {
+        return 22;
+    }
+    if !in_order(register) {
+        return 23;
+    }
+    if !rows::rows_right(rows) {
+        return 24;
+    }
+    import_stop_25_to_32(mode, rows, hgv)
+}
+
+fn import_stop_25_to_32(mode: u64, rows: &[u8], hgv: &[u8]) -> u64 {
+    match hgv::stop_25_to_27(hgv) {
+        0 if hgv::is_28(mode, hgv) => 28,
+        0 if hgv::is_29_receiver(hgv) || rows::rows_of(rows, hgv::sender(hgv)).is_empty() => 29,
+        0 => hgv::stop_30_to_32(hgv),
+        stop => stop,
+    }
+}
+
+/// The number of the rule each line breaks first, 0 for a taken one; none where one of the
+/// stops 21 to 32 is given. Verdicts use neither mode nor reception.
+pub fn rules_broken(register: &[u8], rows: &[u8], hgv: &[u8]) -> Vec<u8> {
+    let reception = b"20250310050000";
+    if import_stop_to_32(1, reception, register, rows, hgv, in_order) != 0 {
+        return Vec::new();
+    }
+    let used = register::used_slots(register);
+    verdict::rules(&hgv::lines(hgv), hgv::sender(hgv), rows, &used)
+}
+
+pub fn import(mode: u64, reception: &[u8], register: &mut [u8], rows: &[u8], hgv: &[u8], hgc: &mut [u8]) -> Imported {
+    let stop = import_stop_to_32(mode, reception, register, rows, hgv, in_order);
+    if stop != 0 {
+        return import_stopped(stop);
+    }
+    let (lines, sender) = (hgv::lines(hgv), hgv::sender(hgv));
+    let rules = verdict::rules(&lines, sender, rows, &register::used_slots(register));
+    let verdicts = verdict::verdicts(&lines, &rules);
+    let taken = verdict::taken_lines(&lines, &verdicts);
+    let after = after(mode, register, sender, &taken, reception, register::after_mode_1);
+    finish_import(reception, register, hgv, hgc, &verdicts, &after)
+}
+
+/// 33 and 34 are known before the first byte is written.
+pub fn finish_import(
+    reception: &[u8],
+    register: &mut [u8],
+    hgv: &[u8],
+    hgc: &mut [u8],
+    verdicts: &[u8],
+    after: &[Vec<u8>],
+) -> Imported {
+    if register::is_33(register, after) {
+        return import_stopped(33);
+    }
+    let confirmation = confirmation::confirmation(hgv, reception, verdicts);
+    if hgc.len() < confirmation.len() {
+        return import_stopped(34);
+    }
+    register::write(register, after);
+    hgc[..confirmation.len()].copy_from_slice(&confirmation);
+    let taken = verdicts.iter().filter(|&&v| v == 0).count() as u64;
+    Imported { number: 0, taken, rejected: verdicts.len() as u64 - taken, length: confirmation.len() as u64 }
+}

@@ -1,0 +1,165 @@
+//! All implementations on the generator's inputs, and what the generator reaches.
+
+use crate::common::*;
+use graftspindle::raw::{Counted, Imported};
+use graftspindle_checks::generate::{case, pair, question, sequence, slots, Case, Event};
+use graftspindle_checks::plain::{clauses_of_52, rules_broken, CLAUSES};
+use std::collections::BTreeMap;
+use std::fmt::Debug;
+
+const SEEDS: u64 = 100_000;
+const SEQUENCES: u64 = 2_000;
+
+type Counts<K> = BTreeMap<K, u64>;
+
+fn count<K: Ord>(counts: &mut Counts<K>, key: K) {
+    *counts.entry(key).or_insert(0) += 1;
+}
+
+/// Prints the counts; exactly the expected ones were reached, each more than by chance.
+fn assert_reached<K: Ord + Debug>(what: &str, counts: &Counts<K>, mut expected: Vec<K>) {
+    println!("{what}: {counts:?}");
+    expected.sort();
+    assert!(counts.keys().eq(&expected), "{what}: expected {expected:?}");
+    assert!(counts.values().all(|&times| times >= 10), "{what}: hardly reached");
+}
+
+fn run_case(engine: &Engine, case: &Case) -> Outcome {
+    run(engine, case.mode, &case.reception, &case.register, &case.rows, &case.hgv, case.hgc_len)
+}
+
+#[test]
+fn imports() {
+    let (mut numbers, mut reasons, mut rules) = (Counts::new(), Counts::new(), Counts::new());
+    for seed in 0..SEEDS {
+        let case = case(seed);
+        let outcome = of_all(|engine| run_case(engine, &case));
+        count(&mut numbers, outcome.answer.number);
+        if outcome.answer.number != 0 {
+            continue;
+        }
+        assert!(of_all(|engine| (engine.in_order)(&outcome.register)), "seed {seed}");
+        let told = of_all(|engine| verdicts(engine, &case.hgv, &outcome));
+        told.into_iter().for_each(|reason| count(&mut reasons, reason));
+        let broken = rules_broken(&case.register, &case.rows, &case.hgv);
+        broken.into_iter().for_each(|rule| count(&mut rules, rule));
+    }
+    assert_reached("import's numbers", &numbers, (21..=34).chain([0]).collect());
+    assert_reached("verdicts", &reasons, vec![0, 1, 2, 3, 4, 5, 6, 8, 9, 12]);
+    assert_reached("rules L1 to L12", &rules, (0..=12).collect());
+}
+
+#[test]
+fn lookups() {
+    let (mut by_pan, mut by_plate) = (Counts::new(), Counts::new());
+    for seed in 0..SEEDS {
+        let q = question(seed);
+        let ask = |e: &Engine| (e.by_plate)(&q.register, &q.plate, &q.nationality, &q.time);
+        count(&mut by_plate, of_all(ask).0);
+        count(&mut by_pan, of_all(|e| (e.by_pan)(&q.register, &q.pan)).0);
+    }
+    assert_reached("by PAN", &by_pan, vec![0, 23, 40, 41]);
+    assert_reached("by plate", &by_plate, vec![0, 22, 23, 40, 41, 42]);
+}
+
+#[test]
+fn reading_back() {
+    let (mut numbers, mut clauses, mut alone) = (Counts::new(), Counts::new(), Counts::new());
+    for seed in 0..SEEDS {
+        let p = pair(seed);
+        let (answer, _) = of_all(|engine| {
+            let mut block = vec![0xEE; p.verdicts_len];
+            let answer = (engine.read_back)(&p.hgv, &p.hgc, &mut block);
+            assert!(answer.number == 0 || block.iter().all(|&b| b == 0xEE), "seed {seed}");
+            (answer, block)
+        });
+        count(&mut numbers, answer.number);
+        let failing = clauses_of_52(&p.hgv, &p.hgc);
+        assert_eq!(answer.number == 52, !failing.is_empty(), "seed {seed}");
+        if let [clause] = failing[..] {
+            count(&mut alone, clause);
+        }
+        failing.into_iter().for_each(|clause| count(&mut clauses, clause));
+    }
+    let expected = vec![0, 25, 26, 27, 29, 30, 31, 32, 52, 53];
+    assert_reached("read back's numbers", &numbers, expected);
+    assert_reached("clauses of 52", &clauses, CLAUSES.to_vec());
+    assert_reached("clauses of 52, alone", &alone, CLAUSES.to_vec());
+}
+
+#[test]
+fn updates() {
+    let (mut numbers, mut alone) = (Counts::new(), Counts::new());
+    for seed in 0..SEEDS {
+        let p = pair(seed);
+        let (answer, _) = of_all(|engine| {
+            let mut copy = p.copy.clone();
+            let answer = (engine.update)(p.mode, &mut copy, &p.hgv, &p.hgc);
+            assert!(answer.number == 0 || copy == p.copy, "seed {seed}");
+            (answer, copy)
+        });
+        count(&mut numbers, answer.number);
+        if let (52, [clause]) = (answer.number, &clauses_of_52(&p.hgv, &p.hgc)[..]) {
+            count(&mut alone, *clause);
+        }
+    }
+    let expected = vec![0, 21, 23, 25, 26, 27, 28, 29, 30, 31, 32, 33, 51, 52];
+    assert_reached("update's numbers", &numbers, expected);
+    assert_reached("update's clauses of 52, alone", &alone, CLAUSES.to_vec());
+}
+
+/// The used slots of an actor, in order, then free ones: what his copy must be.
+fn copy_expected(register: &[u8], actor: &[u8]) -> Vec<u8> {
+    let own = register.chunks(128).filter(|slot| slot[0] == b'1' && &slot[1..7] == actor);
+    let mut expected: Vec<u8> = own.flatten().copied().collect();
+    expected.resize(register.len(), 0);
+    expected
+}
+
+fn import_event(engine: &Engine, register: &[u8], event: &Event) -> Outcome {
+    let Event { mode, reception, rows, hgv, hgc_len } = event;
+    run(engine, *mode, reception, register, rows, hgv, *hgc_len)
+}
+
+/// The provider reads his confirmation back and applies it; nothing is refused.
+fn apply(engine: &Engine, event: &Event, outcome: &Outcome, copy: &mut [u8]) {
+    let told = verdicts(engine, &event.hgv, outcome);
+    let Imported { taken, rejected, .. } = outcome.answer;
+    assert_eq!(told.iter().filter(|&&verdict| verdict == 0).count() as u64, taken);
+    let applied = (engine.update)(event.mode, copy, &event.hgv, &outcome.hgc);
+    assert_eq!(applied, Counted { number: 0, taken, rejected });
+}
+
+/// What a sequence leaves: the outcome of each import, and each provider's copy.
+type Left = (Vec<Outcome>, BTreeMap<Vec<u8>, Vec<u8>>);
+
+/// A provider who applies each confirmation he gets holds our records of him.
+fn follow(engine: &Engine, seed: u64) -> Left {
+    let mut register = vec![0; slots(seed) * 128];
+    let (mut outcomes, mut copies) = Left::default();
+    for event in sequence(seed) {
+        let outcome = import_event(engine, &register, &event);
+        if outcome.answer.number == 0 {
+            let none = vec![0; register.len()];
+            let copy = copies.entry(event.hgv[1..7].to_vec()).or_insert(none);
+            apply(engine, &event, &outcome, copy);
+        }
+        register.clone_from(&outcome.register);
+        outcomes.push(outcome);
+        for (actor, copy) in &copies {
+            assert!(*copy == copy_expected(&register, actor), "{}, seed {seed}", engine.name);
+        }
+    }
+    (outcomes, copies)
+}
+
+#[test]
+fn sequences() {
+    let mut numbers = Counts::new();
+    for seed in 0..SEQUENCES {
+        let (outcomes, _) = of_all(|engine| follow(engine, seed));
+        outcomes.iter().for_each(|outcome| count(&mut numbers, outcome.answer.number));
+    }
+    println!("sequences' numbers: {numbers:?}");
+    assert!([0, 21, 22, 24, 28, 33, 34].iter().all(|number| numbers[number] >= 10));
+}

@@ -1,0 +1,95 @@
+//! Every declaration of `raw` called once with an answer and once with a refusal, and compared with the plain one.
+
+use graftspindle::raw;
+use graftspindle_checks::{plain, sample};
+
+/// A register of four slots after an import of three lines, by both.
+fn imported() -> Vec<u8> {
+    let (mut register, mut hgc) = (vec![0; 4 * 128], vec![7; 300]);
+    let (mut other, mut told) = (register.clone(), hgc.clone());
+    let (rows, hgv) = (sample::row(), sample::hgv(3));
+    let done = raw::import(1, sample::RECEPTION, &mut register, &rows, &hgv, &mut hgc);
+    let plain = plain::import(1, sample::RECEPTION, &mut other, &rows, &hgv, &mut told);
+    assert_eq!((done.number, done.taken, done.rejected, done.length), (0, 3, 0, 174));
+    assert_eq!((plain.number, plain.taken, plain.rejected, plain.length), (0, 3, 0, 174));
+    assert!(register == other && hgc == told);
+    register
+}
+
+/// The HGC of the same import.
+fn confirmed() -> Vec<u8> {
+    let (mut register, mut hgc) = (vec![0; 4 * 128], vec![7; 174]);
+    raw::import(1, sample::RECEPTION, &mut register, &sample::row(), &sample::hgv(3), &mut hgc);
+    hgc
+}
+
+#[test]
+fn a_stop_writes_nothing() {
+    let (mut register, mut hgc) = (vec![0; 128], vec![7; 173]);
+    let done = raw::import(3, sample::RECEPTION, &mut register, &sample::row(), &sample::hgv(3), &mut hgc);
+    assert_eq!((done.number, done.taken, done.rejected, done.length), (21, 0, 0, 0));
+    assert!(register == vec![0; 128] && hgc == vec![7; 173]);
+}
+
+#[test]
+fn by_pan() {
+    let register = imported();
+    for i in 0..4 {
+        let pan = format!("{:<19}", sample::pan(i));
+        let found = raw::by_pan(&register, pan.as_bytes());
+        assert_eq!(found, plain::by_pan(&register, pan.as_bytes()));
+        assert_eq!(found, if i < 3 { (0, i * 128..i * 128 + 128) } else { (41, 0..0) });
+    }
+}
+
+#[test]
+fn by_plate() {
+    let register = imported();
+    for i in 0..4 {
+        let plate = sample::plate(i);
+        let found = raw::by_plate(&register, plate.as_bytes(), b"DE ", sample::RECEPTION);
+        assert_eq!(found, plain::by_plate(&register, plate.as_bytes(), b"DE ", sample::RECEPTION));
+        assert_eq!(found, if i < 3 { (0, i * 128..i * 128 + 128) } else { (41, 0..0) });
+    }
+}
+
+#[test]
+fn read_back() {
+    let (hgv, hgc) = (sample::hgv(3), confirmed());
+    let (mut verdicts, mut told) = (vec![7; 5], vec![7; 5]);
+    let done = raw::read_back(&hgv, &hgc, &mut verdicts);
+    assert_eq!(done, plain::read_back(&hgv, &hgc, &mut told));
+    assert_eq!((done.number, done.taken, done.rejected), (0, 3, 0));
+    assert!(verdicts == [0, 0, 0, 7, 7] && verdicts == told);
+    let refused = raw::read_back(&hgv, &hgc[1..], &mut verdicts);
+    assert_eq!((refused.number, refused.taken, refused.rejected), (52, 0, 0));
+    assert_eq!(raw::read_back(&hgv, &hgc, &mut verdicts[..2]).number, 53);
+}
+
+#[test]
+fn update() {
+    let (hgv, hgc, mut copy) = (sample::hgv(3), confirmed(), vec![0; 4 * 128]);
+    let refused = raw::update(3, &mut copy, &hgv, &hgc);
+    assert_eq!((refused.number, refused.taken, refused.rejected), (21, 0, 0));
+    assert!(copy == vec![0; 4 * 128]);
+    let done = raw::update(2, &mut copy, &hgv, &hgc);
+    assert_eq!((done.number, done.taken, done.rejected), (0, 3, 0));
+    assert!(copy == imported());
+}
+
+/// The largest files and registers, on a thread with a stack of 128 KiB.
+#[test]
+fn small_stack() {
+    let calls = || {
+        let (hgv, rows) = (sample::hgv(8192), sample::row());
+        let (mut register, mut copy, mut hgc, mut verdicts) =
+            (vec![0; 8192 * 128], vec![0; 8192 * 128], vec![0; 174], vec![1; 8192]);
+        let taken = raw::import(2, sample::RECEPTION, &mut register, &rows, &hgv, &mut hgc).taken;
+        let again = raw::import(1, sample::RECEPTION, &mut register, &rows, &hgv, &mut hgc).taken;
+        let read = raw::read_back(&hgv, &hgc, &mut verdicts).taken;
+        let updated = raw::update(1, &mut copy, &hgv, &hgc).taken;
+        (taken, again, read, updated, copy == register)
+    };
+    let thread = std::thread::Builder::new().stack_size(128 * 1024).spawn(calls);
+    assert_eq!(thread.expect("a thread").join().expect("it ends"), (8192, 8192, 8192, 8192, true));
+}

@@ -1,0 +1,147 @@
+//! The shorthand of the cases.
+
+use graftspindle::raw::{Counted, Imported};
+pub use graftspindle_checks::engines::{Engine, ENGINES};
+use std::fmt::Debug;
+
+pub const R0: &[u8] = b"20250310050000";
+pub const ROW0: &[u8] = b"97990012      0816900123";
+pub const LINE0: &[u8] = b"1900123      9799001200000002   ABC123    NO 12  30C00B000503\
+    30C00B001222070321Euro6 02N   004000000000000000000003000000000000\n";
+pub const PAN2: &[u8] = b"9799001200000010   ";
+
+/// LINE0[a-b:=x].
+pub fn with(line: &[u8], from: usize, field: &[u8]) -> Vec<u8> {
+    let mut changed = line.to_vec();
+    changed[from - 1..from - 1 + field.len()].copy_from_slice(field);
+    changed
+}
+
+pub fn x() -> Vec<u8> {
+    LINE0.to_vec()
+}
+
+pub fn y() -> Vec<u8> {
+    with(LINE0, 14, PAN2)
+}
+
+/// X with another plate.
+pub fn x_other() -> Vec<u8> {
+    with(LINE0, 33, b"XYZ123")
+}
+
+pub fn bad() -> Vec<u8> {
+    with(LINE0, 80, b"Euro9 ")
+}
+
+pub fn free(k: usize) -> Vec<u8> {
+    vec![0; 128 * k]
+}
+
+pub fn footer() -> Vec<u8> {
+    [&b"2"[..], &[b'0'; 62], b"\n"].concat()
+}
+
+pub fn hgv(lines: &[Vec<u8>]) -> Vec<u8> {
+    let count = format!("{:015}", lines.len());
+    let parts: [&[u8]; 9] = [
+        b"0900123000002HGV9001232025031001HGV0000000000000000",
+        &[b'0'; 14],
+        count.as_bytes(),
+        b"20250310040000",
+        b"120001",
+        &[b'0'; 27],
+        b"\n",
+        &lines.concat(),
+        &footer(),
+    ];
+    parts.concat()
+}
+
+/// A confirmation of `hgv(..)`, received at R0.
+pub fn hgc(taken: usize, rejected: &[(&[u8], &str)]) -> Vec<u8> {
+    let counts = format!("{taken:015}{:015}", rejected.len());
+    let acceptance: &[u8] = if rejected.is_empty() { b"00\n" } else { b"01\n" };
+    let mut hgc =
+        [&b"0000002900123HGV9001232025031001"[..], R0, counts.as_bytes(), b"120001", &[b'0'; 25], acceptance].concat();
+    for (line, reason) in rejected {
+        hgc.extend([&b"1"[..], &line[1..127], reason.as_bytes(), b"\n"].concat());
+    }
+    hgc.extend(footer());
+    hgc
+}
+
+#[derive(Debug, PartialEq)]
+pub struct Outcome {
+    pub answer: Imported,
+    pub register: Vec<u8>,
+    /// The first `length` bytes of the buffer.
+    pub hgc: Vec<u8>,
+}
+
+/// Runs an import into a buffer of EE and checks what every import owes its lent blocks.
+pub fn run(
+    engine: &Engine,
+    mode: u64,
+    reception: &[u8],
+    register: &[u8],
+    rows: &[u8],
+    hgv: &[u8],
+    hgc_len: usize,
+) -> Outcome {
+    let mut after = register.to_vec();
+    let mut buffer = vec![0xEE; hgc_len];
+    let answer = (engine.import)(mode, reception, &mut after, rows, hgv, &mut buffer);
+    let length = answer.length as usize;
+    assert!(buffer[length..].iter().all(|&b| b == 0xEE), "{}: bytes beyond the HGC", engine.name);
+    if answer.number != 0 {
+        assert_eq!(after, register, "{}: a stop writes nothing", engine.name);
+        assert_eq!((answer.taken, answer.rejected, answer.length), (0, 0, 0));
+    } else {
+        assert_eq!(answer.length, 174 + 130 * answer.rejected);
+    }
+    Outcome { answer, register: after, hgc: buffer[..length].to_vec() }
+}
+
+/// Mode 1 at R0 with ROW0 and room enough.
+pub fn run_lines(engine: &Engine, register: &[u8], lines: &[Vec<u8>]) -> Outcome {
+    run(engine, 1, R0, register, ROW0, &hgv(lines), 174 + 130 * lines.len())
+}
+
+/// The verdicts an outcome tells, through reading back.
+pub fn verdicts(engine: &Engine, hgv: &[u8], outcome: &Outcome) -> Vec<u8> {
+    assert_eq!(outcome.answer.number, 0, "{}", engine.name);
+    let n = (hgv.len() - 192) / 128;
+    let mut block = vec![0xEE; n + 3];
+    let counted = (engine.read_back)(hgv, &outcome.hgc, &mut block);
+    let Imported { taken, rejected, .. } = outcome.answer;
+    assert_eq!(counted, Counted { number: 0, taken, rejected });
+    assert_eq!(block.split_off(n), [0xEE; 3]);
+    block
+}
+
+/// The verdicts of lines in an empty register under the rows.
+pub fn verdicts_under(rows: &[u8], lines: &[Vec<u8>]) -> Vec<Vec<u8>> {
+    let judge = |engine: &Engine| {
+        let file = hgv(lines);
+        let outcome = run(engine, 1, R0, &free(lines.len()), rows, &file, 174 + 130 * lines.len());
+        verdicts(engine, &file, &outcome)
+    };
+    ENGINES.iter().map(judge).collect()
+}
+
+pub fn assert_verdicts(lines: &[Vec<u8>], expected: &[u8]) {
+    for verdicts in verdicts_under(ROW0, lines) {
+        assert_eq!(verdicts, expected);
+    }
+}
+
+/// What all implementations answer: the same, in every byte.
+pub fn of_all<A: PartialEq + Debug>(ask: impl Fn(&Engine) -> A) -> A {
+    let first = ask(&ENGINES[0]);
+    for engine in &ENGINES[1..] {
+        let answer = ask(engine);
+        assert!(answer == first, "{}: {answer:?}\n{}: {first:?}", engine.name, ENGINES[0].name);
+    }
+    first
+}

@@ -1,0 +1,103 @@
+//! When a register is in order, and what it holds after a full list.
+
+use crate::common::*;
+
+#[test]
+fn in_order() {
+    let other_form = [&b"1"[..], &LINE0[1..127], b"\r"].concat();
+    let nearly_free = [vec![0; 127], vec![1]].concat();
+    let cases: Vec<(Vec<u8>, bool)> = vec![
+        (vec![], true),
+        (free(3), true),
+        (free(8192), true),
+        (free(8193), false),
+        (vec![0; 127], false),
+        (vec![b'0'; 128], false),
+        (other_form, false),
+        (nearly_free, false),
+        ([free(1), x()].concat(), false),
+        ([x(), y(), free(2)].concat(), true),
+        ([x(), with(&x(), 2, b"900124")].concat(), false),
+        (with(LINE0, 2, b"90012A"), false),
+        (with(LINE0, 97, b"0351"), false),
+        (with(LINE0, 2, b"999999"), true),
+        ([with(LINE0, 14, b"00000018           "), with(LINE0, 14, b"000000018          ")].concat(), true),
+    ];
+    for engine in ENGINES {
+        for (register, expected) in &cases {
+            assert_eq!((engine.in_order)(register), *expected);
+            let number = if *expected { 0 } else { 23 };
+            assert_eq!(run(engine, 1, R0, register, ROW0, &hgv(&[]), 174).answer.number, number);
+        }
+    }
+}
+
+#[test]
+fn stranger_stays_the_same_bytes() {
+    let stranger = with(&y(), 2, b"999999");
+    for engine in ENGINES {
+        let outcome = run_lines(engine, &[stranger.clone(), free(1)].concat(), &[x()]);
+        assert_eq!(outcome.register, [stranger.clone(), x()].concat());
+    }
+}
+
+#[test]
+fn full_list_closes_up() {
+    let a = x();
+    let b = with(&y(), 2, b"900124");
+    let c = with(LINE0, 14, b"9799001200000028");
+    for engine in ENGINES {
+        let before = [a.clone(), b.clone(), c.clone()].concat();
+        let outcome = run(engine, 2, R0, &before, ROW0, &hgv(&[c.clone(), a.clone()]), 174);
+        assert_eq!(outcome.register, [b.clone(), c.clone(), a.clone()].concat());
+        let own = [a.clone(), y(), c.clone()].concat();
+        let emptied = run(engine, 2, R0, &own, ROW0, &hgv(&[]), 174);
+        assert_eq!(emptied.register, free(3));
+        let rejected = run(engine, 2, R0, &own, ROW0, &hgv(&[bad()]), 304);
+        assert_eq!(rejected.register, free(3));
+    }
+}
+
+#[test]
+fn empty_register() {
+    for engine in ENGINES {
+        assert_eq!(run_lines(engine, &[], &[]).answer.number, 0);
+        assert_eq!(run_lines(engine, &[], &[x()]).answer.number, 33);
+        assert_eq!(run_lines(engine, &[], &[bad()]).answer.number, 0);
+    }
+}
+
+#[test]
+fn header_forms() {
+    let cases: [(usize, &[u8], u64); 17] = [
+        (14, b"HGV900124", 26),
+        (31, b"00", 26),
+        (23, b"20230229", 26),
+        (33, b"HGV9001232025031001", 0),
+        (33, b"HGV9001242025031001", 26),
+        (8, b"00000A", 26),
+        (8, b"000003", 29),
+        (66, b"000004294967297", 30),
+        (81, b"20230229000000", 26),
+        (95, b"12\n001", 27),
+        (95, b"500001", 27),
+        (95, b"220001", 0),
+        (52, b"1", 26),
+        (101, b"1", 26),
+        (128, b"\r", 26),
+        (1, b"1", 26),
+        (94, b" 12\n001", 26),
+    ];
+    for engine in ENGINES {
+        for (from, field, number) in cases {
+            let file = with(&hgv(&[x()]), from, field);
+            let outcome = run(engine, 1, R0, &free(1), ROW0, &file, 174);
+            assert_eq!(outcome.answer.number, number, "{from} {:?}", String::from_utf8_lossy(field));
+        }
+        let end = 128 + 128 + 2;
+        let zero_bytes = with(&hgv(&[x()]), end, &[0; 62]);
+        assert_eq!(run(engine, 1, R0, &free(1), ROW0, &zero_bytes, 174).answer.number, 31);
+        let cr = with(&hgv(&[x()]), 128 + 50, b"\r");
+        assert_eq!(run(engine, 1, R0, &free(1), ROW0, &cr, 174).answer.number, 32);
+    }
+}

@@ -1,0 +1,11 @@
+//! What stands in several places of the project is the same in each: the C boundary, contracts and their laws, the pages of
+//! `docs/`.
+
+#[path = "sources/believed.rs"]
+mod believed;
+#[path = "sources/declarations.rs"]
+mod declarations;
+#[path = "sources/mistakes.rs"]
+mod mistakes;
+#[path = "sources/promises.rs"]
+mod promises;

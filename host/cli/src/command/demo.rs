@@ -1,0 +1,130 @@
+//! `demo`: three providers send whitelists, and one of them follows what is held for him.
+
+use std::ffi::OsString;
+use std::fs;
+use std::path::{Path, PathBuf};
+
+use super::arguments::Arguments;
+use super::{look, texts, Answer, Command, Refusal};
+use crate::files::Disk;
+use graftspindle::Register;
+
+pub const DEMO: Command = Command {
+    name: "demo",
+    options: &[],
+    usage: "demo [FOLDER]",
+    help: "\
+Makes a small register, imports whitelists of three providers into it, applies the confirmations to one provider's copy and
+compares the copy with the records held for him. Works in FOLDER and leaves its files there, or in a folder that goes again.
+",
+    run,
+};
+
+const FILES: [(&str, &[u8]); 5] = [
+    ("issuers.ait", include_bytes!("../../demo/issuers.ait")),
+    ("900123-incremental.hgv", include_bytes!("../../demo/900123-incremental.hgv")),
+    ("900124-incremental.hgv", include_bytes!("../../demo/900124-incremental.hgv")),
+    ("900125-incremental.hgv", include_bytes!("../../demo/900125-incremental.hgv")),
+    ("900123-full.hgv", include_bytes!("../../demo/900123-full.hgv")),
+];
+
+/// What is said, and the commands, in their order. A word that names a file of the demo begins with `/`.
+const STORY: [(&str, &[&str]); 10] = [
+    ("The issuers that are accepted, three providers", &["issuers from-ait --issuers /rows /issuers.ait"]),
+    (
+        "A register of 16 slots, and a copy for provider 900123",
+        &["register new --slots 16 /register", "register new --slots 16 /copy"],
+    ),
+    (
+        "Each provider sends an incremental list",
+        &[
+            "import --register /register --issuers /rows --mode incremental --received 20250310050000 \
+             --hgc /900124-incremental.hgc /900124-incremental.hgv",
+            "import --register /register --issuers /rows --mode incremental --received 20250310050500 \
+             --hgc /900125-incremental.hgc /900125-incremental.hgv",
+            "import --register /register --issuers /rows --mode incremental --received 20250310051000 \
+             --hgc /900123-incremental.hgc /900123-incremental.hgv",
+        ],
+    ),
+    ("What the confirmation tells provider 900123", &["read-back /900123-incremental.hgv /900123-incremental.hgc"]),
+    (
+        "He applies it to his copy",
+        &["update --copy /copy --mode incremental /900123-incremental.hgv /900123-incremental.hgc"],
+    ),
+    (
+        "A day later he sends his full list",
+        &["import --register /register --issuers /rows --mode full --received 20250311050000 \
+           --hgc /900123-full.hgc /900123-full.hgv"],
+    ),
+    ("What the confirmation tells him", &["read-back /900123-full.hgv /900123-full.hgc"]),
+    ("He applies that too", &["update --copy /copy --mode full /900123-full.hgv /900123-full.hgc"]),
+    (
+        "A lane asks for a PAN and for a plate",
+        &[
+            "lookup pan --register /register 9799001200000051",
+            "lookup plate --register /register --at 20250312080000 ÄB4711 SE",
+        ],
+    ),
+    ("The register then", &["register show --at 20250312080000 /register"]),
+];
+
+fn words(command: &str, folder: &Path) -> Vec<OsString> {
+    let word = |word: &str| match word.strip_prefix('/') {
+        Some(file) => folder.join(file).into_os_string(),
+        None => word.into(),
+    };
+    command.split(' ').map(word).collect()
+}
+
+fn shown(disk: &dyn Disk, command: &str, folder: &Path) -> Answer {
+    let answer = super::run(disk, &words(command, folder))?.replace(&format!("{}/", folder.display()), "");
+    Ok(format!("$ graftspindle {}\n{answer}", command.replace(" /", " ")))
+}
+
+fn tell(disk: &dyn Disk, folder: &Path) -> Answer {
+    let mut told = String::new();
+    for (heading, commands) in STORY {
+        let shown: Result<String, Refusal> = commands.iter().map(|command| shown(disk, command, folder)).collect();
+        told += &format!("{heading}:\n{}\n", shown?);
+    }
+    Ok(told)
+}
+
+fn held_for<'a>(actor: &'a str, register: &'a Register) -> Vec<&'a [u8]> {
+    register.records().filter(|slot| texts::actor(slot) == actor).collect()
+}
+
+fn compare(disk: &dyn Disk, folder: &Path) -> Answer {
+    let (register, copy) = (look(disk, &folder.join("register"))?, look(disk, &folder.join("copy"))?);
+    let (held, own) = (held_for("900123", &register), copy.records().collect::<Vec<_>>());
+    if held != own {
+        return Err(Refusal::Fault("the copy differs from the records held for 900123".to_string()));
+    }
+    let count = held.len();
+    let equal = "The copy of provider 900123 equals the records held for him";
+    Ok(format!("{equal}: {count} records, the same bytes in the same order.\n"))
+}
+
+fn play(disk: &dyn Disk, folder: &Path) -> Answer {
+    for (name, bytes) in FILES {
+        fs::write(folder.join(name), bytes)?;
+    }
+    Ok(tell(disk, folder)? + &compare(disk, folder)?)
+}
+
+/// Without links, as the commands name files.
+fn made(folder: PathBuf) -> Result<PathBuf, Refusal> {
+    fs::create_dir_all(&folder)?;
+    Ok(folder.canonicalize()?)
+}
+
+fn run(disk: &dyn Disk, given: &Arguments) -> Answer {
+    if let Some(folder) = given.rest_if_given()? {
+        return play(disk, &made(folder.into())?);
+    }
+    let name = format!("graftspindle-demo-{}", std::process::id());
+    let folder = made(std::env::temp_dir().join(name))?;
+    let told = play(disk, &folder);
+    fs::remove_dir_all(&folder)?;
+    told
+}

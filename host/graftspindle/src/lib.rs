@@ -1,0 +1,42 @@
+//! The proved account register of a group of toll roads, as safe Rust for a service.
+//!
+//! [`Register`] is a road's register, or a provider's copy of his part of it: an HGV is imported into it, a PAN or a plate
+//! looked up in it, a confirmed HGV applied to a copy. [`read_back`] tells a provider what an HGC says of each of his lines.
+//! Every answer is the proved library's and nothing here judges a byte. What is refused is refused by its [`Number`] in the
+//! definition, and a refusal leaves every block as it was.
+//!
+//! [`raw`] holds the same functions on plain numbers and lent blocks, and says what the C boundary leaves unchecked.
+//!
+//! ```
+//! use graftspindle::{Import, Mode, Number, Register};
+//!
+//! let mut register = Register::free(4)?;
+//! let given = Import { mode: Mode::Incremental, reception: b"20250310050000", rows: b"", hgv: b"" };
+//! let refused = register.import(&given).unwrap_err();
+//! assert_eq!(refused, Number::HgvLength);
+//! assert!(refused.to_string().starts_with("25: "));
+//! assert_eq!(register.by_pan(b"9799001200000002   "), Err(Number::NoRecord));
+//! # Ok::<(), Number>(())
+//! ```
+
+#![deny(unsafe_code)]
+#![warn(missing_docs)]
+
+#[macro_use]
+mod numbered;
+
+mod mode;
+mod number;
+mod provider;
+#[allow(unsafe_code)]
+pub mod raw;
+mod reason;
+mod register;
+pub mod sizes;
+
+pub use mode::Mode;
+pub use number::Number;
+pub use numbered::Undefined;
+pub use provider::read_back;
+pub use reason::{Reason, Verdict};
+pub use register::{rows_in_form, Counts, Import, Register};

@@ -1,0 +1,111 @@
+//! The register of a road, or a provider's copy of his part of it, as one value.
+
+use crate::number::unless_refused;
+use crate::sizes::SLOT;
+use crate::{raw, Mode, Number};
+
+/// What is handed over with a register to import an HGV into it.
+#[derive(Clone, Copy, Debug)]
+pub struct Import<'a> {
+    /// Whether the list is an incremental or a full one.
+    pub mode: Mode,
+    /// The moment at which the HGV was received, UTC, `YYYYMMDDhhmmss`.
+    pub reception: &'a [u8],
+    /// The issuer rows, 24 bytes each.
+    pub rows: &'a [u8],
+    /// The whitelist, from the first byte of its header to the last of its footer.
+    pub hgv: &'a [u8],
+}
+
+/// How many lines of an HGV were taken and rejected.
+#[derive(Clone, Copy, Debug, PartialEq, Eq)]
+pub struct Counts {
+    /// The lines that break no rule.
+    pub taken: u64,
+    /// The lines that the HGC returns with their reasons.
+    pub rejected: u64,
+}
+
+/// A register: slots in one block, the used ones in front.
+#[derive(Clone, Debug, PartialEq, Eq)]
+pub struct Register(Vec<u8>);
+
+/// A key that is in form, so that only the register is judged.
+const ANY_PAN: &[u8; 19] = b"0                  ";
+
+/// More slots than any register has.
+const TOO_MANY: usize = 1 << 16;
+
+impl Register {
+    /// A register of so many free slots.
+    pub fn free(slots: usize) -> Result<Register, Number> {
+        // So many at the most are made to be judged: where there are too many, these are too many already.
+        let register = Register(vec![0; slots.min(TOO_MANY) * SLOT]);
+        register.in_order().map(|()| register)
+    }
+
+    /// Takes any bytes: what is not in order is refused by each call.
+    pub fn from_bytes(bytes: Vec<u8>) -> Register {
+        Register(bytes)
+    }
+
+    /// The block, to be kept.
+    pub fn bytes(&self) -> &[u8] {
+        &self.0
+    }
+
+    /// Whether the register is in order, 23 where it is not.
+    pub fn in_order(&self) -> Result<(), Number> {
+        match self.by_pan(ANY_PAN) {
+            Err(Number::Order) => Err(Number::Order),
+            _ => Ok(()),
+        }
+    }
+
+    /// Imports an HGV: the counts, and the HGC for its sender. Register and HGC belong together, so keep both or neither.
+    pub fn import(&mut self, given: &Import) -> Result<(Counts, Vec<u8>), Number> {
+        // An HGC is never twice as long as its HGV.
+        let mut hgc = vec![0; 2 * given.hgv.len()];
+        let done = raw::import(given.mode.number(), given.reception, &mut self.0, given.rows, given.hgv, &mut hgc);
+        hgc.truncate(done.length as usize);
+        unless_refused(done.number, (Counts { taken: done.taken, rejected: done.rejected }, hgc))
+    }
+
+    /// The slot itself that holds the PAN: 19 bytes, digits and then blanks.
+    pub fn by_pan(&self, pan: &[u8]) -> Result<&[u8], Number> {
+        let (number, part) = raw::by_pan(&self.0, pan);
+        unless_refused(number, &self.0[part])
+    }
+
+    /// The slot itself, of the one record with the plate (10 bytes) and the nationality (3) that is active at the time.
+    pub fn by_plate(&self, plate: &[u8], nationality: &[u8], time: &[u8]) -> Result<&[u8], Number> {
+        let (number, part) = raw::by_plate(&self.0, plate, nationality, time);
+        unless_refused(number, &self.0[part])
+    }
+
+    /// The provider's update of this copy of his: applies the lines of the HGV that its HGC says were taken.
+    pub fn update(&mut self, mode: Mode, hgv: &[u8], hgc: &[u8]) -> Result<Counts, Number> {
+        let done = raw::update(mode.number(), &mut self.0, hgv, hgc);
+        unless_refused(done.number, Counts { taken: done.taken, rejected: done.rejected })
+    }
+
+    /// All slots, used and free.
+    pub fn slots(&self) -> impl Iterator<Item = &[u8]> {
+        self.0.chunks(SLOT)
+    }
+
+    /// The slots that are not free, of a register in order.
+    pub fn records(&self) -> impl Iterator<Item = &[u8]> {
+        self.slots().take_while(|slot| slot[0] != 0)
+    }
+}
+
+/// Whether issuer rows are in form, 24 where they are not: an import judges them before it looks at the HGV, and no HGV is
+/// empty.
+pub fn rows_in_form(rows: &[u8]) -> Result<(), Number> {
+    let given = Import { mode: Mode::Incremental, reception: b"20000101000000", rows, hgv: &[] };
+    match Register(Vec::new()).import(&given) {
+        Err(Number::Rows) => Err(Number::Rows),
+        _ => Ok(()),
+    }
+}
