@@ -108,7 +108,7 @@ fn line_holds(hgv: &[u8], l: &[u8]) -> bool
     ensures { λ r. ⌜ r ≡ lineHolds (now (hgv .entry)) (now (l .entry)) ⌝ }
 {
     let sender = header::sender(hgv);
-    texts::has_text(l, columns::ACTOR_FROM, columns::ACTOR_TO, sender) & lines::is_record(l)
+    slots::is_of(l, sender) & lines::is_record(l)
 }
 
 // Does each line marked 0 hold.

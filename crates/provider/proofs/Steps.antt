@@ -151,8 +151,7 @@ module _ (mode : ℕ) (copy h g : List ℕ) (z : first (copyStops mode copy h) �
             × (Fit mode from (recordOf reception) (slotsIn copy) (records copy) (takenIn w ms ls) × Sought mode (records copy) w ls ms found))))
         apply-fits found₀ found y m f =
             let s = copy-sound mode copy h z in
-            let t = holds h g r er k in
-            (
+            let t = holds h g r er k in (
               lines-fit,
               (
                 s .ordered,

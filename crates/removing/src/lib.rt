@@ -24,8 +24,7 @@ pub fn remove_marked(register: &mut [u8], marks: &[u8]) -> usize
 fn mark_of(slot: &[u8], who: &[u8]) -> u8
     ensures { λ r. ⌜ r ≡ markBy (ofActor (now (who .entry))) (now (slot .entry)) ⌝ }
 {
-    let own = texts::has_text(slot, columns::ACTOR_FROM, columns::ACTOR_TO, who);
-    if own { 1 } else { 0 }
+    if slots::is_of(slot, who) { 1 } else { 0 }
 }
 
 // A mark for each of the slots, as many as `marks` has room for.

@@ -6,6 +6,9 @@ use std::collections::BTreeSet;
 use std::fs::read_dir;
 use std::path::PathBuf;
 
+/// The one function whose promise leaves what it writes open, so that no law can say that two outcomes are one.
+const OPEN: &str = "sorting::sort";
+
 /// `has_text`: `HasText`.
 fn in_capitals(name: &str) -> String {
     let word = |w: &str| w[..1].to_uppercase() + &w[1..];
@@ -44,6 +47,10 @@ fn each_contract_is_one_promise_with_its_law() {
             let cited = said.split(' ').next().expect("a name");
             assert!(cited == own || cited == called, "{name}: its contract cites {cited}");
             assert!(!said.contains(" × ") && !said.contains('≡'), "{name}: its contract says more than its promise");
+            if format!("{}::{name}", library.file_name().expect("a name").to_string_lossy()) == OPEN {
+                assert!(text(&root().join("docs/PROOFS.md")).contains(&format!("`{OPEN}`")), "{OPEN}: not explained");
+                continue;
+            }
             let laws = text(&library.join("specs/laws/Outcomes.antt"));
             let law = format!("pub {}-one :", name.replace('_', "-"));
             let stated = laws.split(&law).nth(1).unwrap_or_else(|| panic!("{name}: no law {law}"));
