@@ -2,20 +2,17 @@
 use mathlib.Core.Path.{_≡_, refl, sym, _∙_}
 use mathlib.Core.Bool.{Bool, true, false, not, cond}
 use mathlib.Core.List.{List, []}
-use Prim.Native.Nat.{ℕ, suc, _+_, _-_, _*_, _≤_, _<_}
+use Prim.Native.Nat.{ℕ, _+_, _*_, _≤_, _<_}
 use native.Mathlib.Omega.{arith}
 use lib.Dec.{eqb, ltb}
 use lib.ListN.{length}
 use borrow.Author.Tests.{eqb-true, eqb-false, eq-eqb, ne-eqb, ltb-true, ltb-false}
 use Rattle.theory.specs.First.{choose}
-use Rattle.theory.specs.Parts.{chop, partAt}
-use Rattle.theory.specs.laws.Parts.{partsFrom, parts-start, parts-step, parts-end}
-use Rattle.theory.specs.Count.{bump}
+use Rattle.theory.specs.Parts.{partAt}
 use Rattle.theory.specs.Walk.{some}
-use Rattle.theory.specs.Place.{place, placeOn}
+use Rattle.theory.specs.Place.{place}
 use Rattle.theory.specs.laws.Place.{place-most, place-some}
 use Rattle.theory.specs.Keep.{sift}
-use Rattle.theory.specs.laws.Keep.{length-onto}
 use Rattle.sizes.specs.Sizes.{slotLength}
 use Rattle.slots.specs.Slots.{slotsIn, slotsOf, records, usedIn, usedPart}
 use Rattle.slots.specs.Search.{holdsPan, placeOf}
@@ -108,47 +105,7 @@ module _ (b key used : List ℕ) (i : ℕ) (u : used ≡ usedPart b) (f : i ≡ 
       let e : slotsIn used ≡ usedIn b = rw u (used-slots b) in
       rw (place-some q (records b), pan-place, e) (none-at (place q (records b)) (usedIn b) (place-most q (records b)))
 
--- ---- the walk by plate, from the last slot to the first
-
-module _ (q : List ℕ → Bool) (w n : ℕ) (b : List ℕ) where
-  -- from place i on k parts pass, and the first of them, or the end, is at f
-  unfoldable pub Behind : ℕ → ℕ → ℕ → Type 0
-  Behind i k f = (k ≡ length (sift q (partsFrom w n i b))) × (f ≡ i + place q (partsFrom w n i b))
-
-  pub behind-start : Behind n 0 n
-  unfolding Behind sift place
-  behind-start = rw (parts-end w n b n (omega arith)) (refl, omega arith)
-
-  module _ (j k f : ℕ) (v : Behind j k f) where
-    pub behind-end : j ≡ 0 → (k ≡ length (sift q (chop w n b))) × (f ≡ place q (chop w n b))
-    unfolding Behind
-    behind-end z = let e : chop w n b ≡ partsFrom w n j b = rw z (parts-start w n b) in rw e (v .0, omega (arith, v .1, z))
-
-    -- x is the part in front of j, and r what the test said of it
-    module _ (h : (0 < j) × (j ≤ n)) (x : List ℕ) (p : x ≡ partAt w (j - 1) b) (r : Bool) (e : r ≡ q x) where
-      count : length (sift q (partsFrom w n (j - 1) b)) ≡ bump r k
-      unfolding Behind sift
-      count =
-          let s : j - 1 + 1 ≡ j = omega arith in
-          rw (parts-step w n b (j - 1) (omega arith), ← p, ← e, s, v .0) (length-onto r x (sift q (partsFrom w n j b)))
-
-      first : place q (partsFrom w n (j - 1) b) ≡ placeOn r (place q (partsFrom w n j b))
-      unfolding place
-      first =
-          let s : j - 1 + 1 ≡ j = omega arith in
-          rw (parts-step w n b (j - 1) (omega arith), ← p, ← e, s)
-
-      pub behind-hit : r ≡ true → Behind (j - 1) (k + 1) (j - 1)
-      unfolding Behind bump placeOn
-      behind-hit t =
-          let c : length (sift q (partsFrom w n (j - 1) b)) ≡ suc k = count ∙ rw t in
-          let g : place q (partsFrom w n (j - 1) b) ≡ 0 = first ∙ rw t in (omega arith, omega arith)
-
-      pub behind-miss : r ≡ false → Behind (j - 1) k f
-      unfolding Behind bump placeOn
-      behind-miss t =
-          let c : length (sift q (partsFrom w n (j - 1) b)) ≡ k = count ∙ rw t in
-          let g : place q (partsFrom w n (j - 1) b) ≡ suc (place q (partsFrom w n j b)) = first ∙ rw t in (sym c, omega (arith, v .1))
+-- ---- the walk by plate
 
 -- `used` is the used part, which the walk went over
 module _ (b p n t used : List ℕ) (u : used ≡ usedPart b) where

@@ -3,10 +3,10 @@ use Prim.Native.Nat.{_+_, _≤_}
 use native.Mathlib.Omega.{arith}
 use borrow.Author.Needs.{needs}
 use Rattle.theory.specs.laws.Parts.{whole-fits}
+use Rattle.theory.specs.laws.Counting.{Behind, behind-start, behind-hit, behind-miss, behind-end}
 use Rattle.sizes.specs.Sizes.{slotLength}
 use Rattle.slots.specs.Slots.{slotsOf}
 use Rattle.lookups.specs.Lookup.{fitsPlate}
-use Rattle.lookups.proofs.Laws.{Behind, behind-start, behind-hit, behind-miss, behind-end}
 use Rattle.lookups.proofs.find_fitting.Statement.{statement}
 use Rattle.lookups.proofs.find_fitting.Tie as tie
 

@@ -5,11 +5,10 @@ use native.Mathlib.Omega.{arith}
 use borrow.Author.Needs.{needs}
 use Rattle.theory.specs.Count.{bump}
 use Rattle.theory.specs.laws.Parts.{whole-fits}
-use Rattle.theory.specs.laws.Counting.{Counting, counting-start, counting-end}
+use Rattle.theory.specs.laws.Counting.{Counting, counting-start, counting-turn, counting-end}
 use Rattle.sizes.specs.Sizes.{slotLength}
 use Rattle.slots.specs.Slots.{slotsOf}
 use Rattle.slots.specs.Search.{ofActor, countOf}
-use Rattle.slots.proofs.Laws.{counted}
 use Rattle.slots.proofs.count_of.Statement.{statement}
 use Rattle.slots.proofs.count_of.Tie as tie
 
@@ -31,7 +30,7 @@ loop-again c =
     let l = c .before .before .before .before .loop in
     let h = c .before .before .before .loop-test .taken in (
       omega arith,
-      let turn = counted _ _ _ _ _ _ (l .inv .1 .1) h _ (c .before .before .part .ensures) _ (c .before .is-of .ensures) _ in
+      let turn = counting-turn _ _ _ _ _ _ (l .inv .1 .1) h _ (c .before .before .part .ensures) _ (c .before .is-of .ensures) _ in
           ⊎-elim
           (λ w. (omega arith, turn (rw (w .0 .taken) (omega (arith, w .1)))))
           (λ w. (omega arith, turn (rw (w .0 .left) (w .1))))

@@ -1,15 +1,13 @@
--- Laws of counting, and the count that a walk over the parts of a block keeps. Assumes nothing.
-use mathlib.Core.Path.{_≡_, refl, sym, _∙_}
+-- Laws of counting. Assumes nothing.
+use mathlib.Core.Path.{_≡_, refl, sym}
 use mathlib.Core.Bool.{Bool, true, false, _&&_, _||_, false≢true}
-use mathlib.Core.List.{List, [], _∷_, _++_, map}
-use Prim.Native.Nat.{ℕ, suc, _+_, _≤_, _<_}
+use mathlib.Core.List.{List, [], _∷_, _++_}
+use Prim.Native.Nat.{ℕ, suc, _+_, _≤_}
 use native.Mathlib.Omega.{arith}
 use lib.Dec.{ltb}
 use borrow.Author.Tests.{lt-ltb}
 use Rattle.theory.specs.Same.{eqs, mem}
 use Rattle.theory.specs.laws.Same.{eqs-refl}
-use Rattle.theory.specs.Parts.{chop, partAt}
-use Rattle.theory.specs.laws.Parts.{partsFrom, parts-start, parts-step, parts-end}
 use Rattle.theory.specs.Count.{bump, count}
 
 pub bump-le : (b : Bool) (m n : ℕ) → m ≤ n → bump b m ≤ suc n
@@ -60,32 +58,3 @@ mem-count t (x ∷ xs) = rw (mem-count t xs) (either (eqs t x) (count t xs))
     either : (b : Bool) (n : ℕ) → b || ltb 0 n ≡ ltb 0 (bump b n)
     either true n = sym (lt-ltb 0 (suc n) (omega arith))
     either false n = refl
-
--- ---- a walk over n parts of width w, that counts those whose key is t: k were found before the place i
-
--- the count before the place i and the count of the rest give the whole
-unfoldable pub Counted : ℕ → ℕ → (List ℕ → List ℕ) → List ℕ → List ℕ → ℕ → ℕ → Type 0
-Counted w n key t b i k = count t (map key (chop w n b)) ≡ k + count t (map key (partsFrom w n i b))
-
-module _ (w n : ℕ) (key : List ℕ → List ℕ) (t b : List ℕ) where
-  pub counted-start : Counted w n key t b 0 0
-  unfolding Counted
-  counted-start = rw (parts-start w n b) (omega arith)
-
-  -- a turn as the loop has it: x is the part that it looked at, and r what it found
-  module _ (i k : ℕ) (c : Counted w n key t b i k) (h : i < n) (x : List ℕ) (p : x ≡ partAt w i b) (r : Bool) (e : r ≡ eqs t (key x)) (k′ : ℕ) where
-    turn : count t (map key (partsFrom w n i b)) ≡ bump r (count t (map key (partsFrom w n (i + 1) b)))
-    unfolding count
-    turn = rw (parts-step w n b i h, ← p, ← e)
-
-    pub counted-hit : r ≡ true → k′ ≡ k + 1 → Counted w n key t b (i + 1) k′
-    unfolding Counted bump
-    counted-hit v q = let s : count t (map key (partsFrom w n i b)) ≡ suc (count t (map key (partsFrom w n (i + 1) b))) = turn ∙ rw v in omega arith
-
-    pub counted-miss : r ≡ false → k′ ≡ k → Counted w n key t b (i + 1) k′
-    unfolding Counted bump
-    counted-miss v q = let s : count t (map key (partsFrom w n i b)) ≡ count t (map key (partsFrom w n (i + 1) b)) = turn ∙ rw v in omega arith
-
-  pub counted-end : (i k : ℕ) → Counted w n key t b i k → n ≤ i → k ≡ count t (map key (chop w n b))
-  unfolding Counted count
-  counted-end i k c h = let s : count t (map key (partsFrom w n i b)) ≡ 0 = rw (parts-end w n b i h) in omega arith
