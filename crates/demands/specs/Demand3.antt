@@ -10,7 +10,7 @@ use Rattle.slots.specs.Slots.{records}
 use Rattle.importer.specs.declared.Imported.{Imported}
 use Rattle.provider.specs.declared.Counted.{Counted}
 use Rattle.demands.specs.Own.{own}
-use Rattle.demands.specs.History.{Handed, Imports, Entry, Event, acceptance, his, entries, answers, empty, _▸_, Ours, start, accepted, refused, Replay, start}
+use Rattle.demands.specs.History.{Handed, Imports, Entry, Event, his, entries, answers, empty, Ours, start, Replay, start}
 use Rattle.demands.specs.laws.Replays as laws
 
 -- "Both sides start empty with as many slots;"

@@ -1,15 +1,13 @@
 -- What the functions of this crate cite. Assumes nothing.
-use mathlib.Core.Path.{_≡_, refl, sym, ap, _∙_}
-use mathlib.Core.Bool.{Bool, true, false, not, cond, _&&_}
+use mathlib.Core.Path.{_≡_, refl, sym, _∙_}
+use mathlib.Core.Bool.{Bool, true, false, not, _&&_}
 use mathlib.Core.List.{List}
 use Prim.Native.Nat.{ℕ, _+_, _-_, _≤_, _<_}
 use native.Mathlib.Omega.{arith}
 use lib.Dec.{ltb}
 use lib.ListN.{length, getD}
 use borrow.Author.Tests.{lt-ltb, le-ltb, eq-eqb, ne-eqb}
-use Rattle.theory.specs.Walk.{some}
 use Rattle.theory.specs.Count.{bump}
-use Rattle.theory.specs.Keep.{sift}
 use Rattle.theory.specs.laws.Keep.{sift-counts}
 use Rattle.theory.specs.Parts.{partAt}
 use Rattle.theory.specs.laws.Parts.{length-chop}
@@ -20,7 +18,7 @@ use Rattle.theory.specs.laws.Tally.{tally-pick, tallies}
 use Rattle.theory.specs.laws.Place.{place-some}
 use Rattle.theory.specs.laws.Among.{CountAmong, count-among-start, count-among-turn, count-among-end}
 use Rattle.columns.specs.Columns.{panOf}
-use Rattle.sizes.specs.Sizes.{full, slotLength, slotsMost}
+use Rattle.sizes.specs.Sizes.{full, slotLength}
 use Rattle.sizes.specs.Modes.{isFull}
 use Rattle.slots.specs.Slots.{slotsIn, slotsOf, records, usedIn, usedPart}
 use Rattle.slots.specs.laws.Slots.{used-slots, slots-used}

@@ -1,6 +1,6 @@
 -- What the functions of this crate cite. Assumes nothing.
-use mathlib.Core.Path.{_≡_, refl, sym, ap, _∙_}
-use mathlib.Core.Bool.{Bool, true, false}
+use mathlib.Core.Path.{_≡_, sym, _∙_}
+use mathlib.Core.Bool.{true}
 use mathlib.Core.List.{List, _++_}
 use Prim.Native.Nat.{ℕ, _+_, _-_, _*_, _≤_}
 use native.Mathlib.Omega.{arith}
@@ -34,7 +34,6 @@ use Rattle.applying.specs.laws.Sought.{NoPlaces, sought}
 use Rattle.hgv.specs.laws.Layout.{lines-most}
 use Rattle.stops.specs.Stops.{formStop}
 use Rattle.stops.specs.laws.Clear.{Clear, clear}
-use Rattle.importer.specs.declared.Imported.{Imported}
 use Rattle.importer.specs.Import.{judged, following, confirmed, roomStops, success, written, told}
 use Rattle.importer.specs.laws.Numbers.{Room, room-clear}
 use Rattle.importer.specs.laws.Accepted.{Accepted, verdict-each, lines-there, verdicts-most, lines-are, lines-hold, lines-made, lines-apart, lines-free, following-used, confirmed-length}

@@ -6,7 +6,7 @@ use Prim.Native.Nat.{ℕ, _+_, _*_, _≤_, _<_}
 use native.Mathlib.Omega.{arith}
 use lib.ListN.{length, take, drop, set, length-map, length-set}
 use Rattle.theory.specs.Count.{bump}
-use Rattle.theory.specs.Keep.{onto, sift}
+use Rattle.theory.specs.Keep.{sift}
 use Rattle.theory.specs.Pick.{good, pick}
 use Rattle.theory.specs.Parts.{chop, partAt}
 use Rattle.theory.specs.laws.Parts.{length-chop}

@@ -2,7 +2,7 @@
 use mathlib.Core.Path.{_≡_, refl, sym, ap, _∙_}
 use mathlib.Core.Bool.{Bool, true, false, cond, false≢true}
 use mathlib.Core.List.{List, [], _∷_, _++_, map}
-use Prim.Native.Nat.{ℕ, suc, _+_, _*_, _≤_, _<_}
+use Prim.Native.Nat.{ℕ, suc, _+_, _≤_, _<_}
 use native.Mathlib.Omega.{arith}
 use native.Mathlib.Numerals.{add-one}
 use lib.Dec.{eqb, ltb}
@@ -170,9 +170,6 @@ module _ (reception : List ℕ) (n : ℕ) (goal : List (List ℕ)) (b : List ℕ
           → storedAll (storedIf c (recordOf reception l) (records b)) (map (recordOf reception) ls) ≡ goal
       leads true e = e
       leads false e = e
-
-  pub storing-most : (ls : List (List ℕ)) → Storing reception n goal ls b used → used ≤ slotsMost
-  storing-most ls s = omega (arith, s .counted, used-most b, ordered b (s .order) .most)
 
   -- no byte more or less
   pub storing-length : (b₀ : List ℕ) (ls ks : List (List ℕ)) (m : ℕ) → Storing reception n goal ks b₀ m → Storing reception n goal ls b used → length b ≡ length b₀

@@ -3,7 +3,7 @@
 use mathlib.Core.Path.{_≡_, refl}
 use mathlib.Core.Bool.{false}
 use mathlib.Core.List.{List, [], _∷_, _++_}
-use lib.ListN.{take, drop, replicate}
+use lib.ListN.{take, drop}
 use Rattle.theory.specs.Text.{bytes}
 use Prim.Native.Nat.{ℕ}
 use Rattle.theory.specs.Count.{bump, count}
@@ -34,10 +34,10 @@ use Rattle.lines.specs.laws.Starred.{starred}
 use Rattle.slots.specs.Slots.{slotsOf, marked, records, usedPart}
 use Rattle.register.specs.Register.{usedForm, freeForm, inOrder}
 use Rattle.slots.specs.Search.{holdsPan, placeOf, ofActor, holdsForeign, heldByAnother, countOf}
-use Rattle.hgv.specs.Layout.{linesIn, lengthHolds, body, linesOf, footer}
+use Rattle.hgv.specs.Layout.{widthOf, linesIn, lengthHolds, body, linesOf, footer}
 use Rattle.frames.specs.Frames.{footerForm, footerHolds, framed, framesHold}
 use Rattle.sequences.specs.Sequence.{sequence}
-use Rattle.header.specs.Header.{previousHolds, headerHolds, sender}
+use Rattle.header.specs.Header.{previousHolds, headerHolds}
 use Rattle.claims.specs.Claims.{versionHolds, incrementalOnly, receiverHolds, countHolds}
 use Rattle.hgc.specs.Confirmation.{zeros, outcome, names, counts, head, answer, answers, foot, confirmation}
 use Rattle.hgc.specs.laws.Confirmation.{said}
@@ -200,5 +200,5 @@ pub record Late : Type 0 where
 -- ---- computed, by every definition that the contracts reach
 
 pub computed : Single × (Six × Late)
-unfolding takenNext earlier bump distinct all run leading choose first flat onto free pad frontOn front chop good bad pick eqs mem scan tally each some field listed filledTo filled numberAfter number decimal pan doubled addend luhnSum luhn allowed plate nationality separated separator rowHolds rowsHold sentBy rowBegins rowFits known someRowBegins someRowFits daysIn realTime realDate tariffHolds classHolds emissionHolds productHolds engineHolds validToHolds separatorHolds fieldsHold vehicleHolds weightHolds L10 endOf recordOf L1 L2 L3 L4 L5 L6 L7 stateless L8 L9 lineRules recordHolds starred slotsOf marked usedForm freeForm records usedPart inOrder holdsPan placeOf ofActor holdsForeign heldByAnother countOf linesIn lengthHolds body linesOf footer footerForm footerHolds framed framesHold sequence previousHolds headerHolds versionHolds incrementalOnly receiverHolds countHolds zeros outcome names counts head answer said answers foot confirmation ownRules verdictRules verdict verdictsOf fileVerdicts taken rejected storedOn stored storedAll others replacedAll isFull holdings usedAfter modeHolds notFull addressed formStops formStop judged following confirmed roomStops stops numberOf unlessStopped refusal success registerAfter hgcAfter written told answered empty sift isTaken marksFrom marks left answersIn behindHead answersOf lengthForm headForm answerForm formHolds namesHold outcomeHolds reasonHolds textsOf copiesOf marksOf takenBy sameTexts copiesHold countsHold lineHolds takenHold saysHold linesHold receiptHolds turnedDown told-counts ownHolds copyStops copied copyRoom updateNumber updateAnswer updated copyAfter count copyBy answersBy
+unfolding takenNext earlier bump distinct all run leading choose first flat onto free pad frontOn front chop good bad pick eqs mem scan tally each some field listed filledTo filled numberAfter number decimal pan doubled addend luhnSum luhn allowed plate nationality separated separator rowHolds rowsHold sentBy rowBegins rowFits known someRowBegins someRowFits daysIn realTime realDate tariffHolds classHolds emissionHolds productHolds engineHolds validToHolds separatorHolds fieldsHold vehicleHolds weightHolds L10 endOf recordOf L1 L2 L3 L4 L5 L6 L7 stateless L8 L9 lineRules recordHolds starred slotsOf marked usedForm freeForm records usedPart inOrder holdsPan placeOf ofActor holdsForeign heldByAnother countOf widthOf linesIn lengthHolds body linesOf footer footerForm footerHolds framed framesHold sequence previousHolds headerHolds versionHolds incrementalOnly receiverHolds countHolds zeros outcome names counts head answer said answers foot confirmation ownRules verdictRules verdict verdictsOf fileVerdicts taken rejected storedOn stored storedAll others replacedAll isFull holdings usedAfter modeHolds notFull addressed formStops formStop judged following confirmed roomStops stops numberOf unlessStopped refusal success registerAfter hgcAfter written told answered empty sift isTaken marksFrom marks left answersIn behindHead answersOf lengthForm headForm answerForm formHolds namesHold outcomeHolds reasonHolds textsOf copiesOf marksOf takenBy sameTexts copiesHold countsHold lineHolds takenHold saysHold linesHold receiptHolds turnedDown told-counts ownHolds copyStops copied copyRoom updateNumber updateAnswer updated copyAfter count copyBy answersBy
 computed = (record { good-answer = refl; good-register = refl; empty-answer = refl; empty-hgc = refl; bad-answer = refl; bad-hgc = refl; different = refl; first-register = refl; both-register = refl; both-different = refl; ended-register = refl; ended-hgc = refl }, (record { answer₁ = refl; after₁ = refl; hgc-is₁ = refl; answer₂ = refl; after₂ = refl; hgc-is₂ = refl; answer₃ = refl; after₃ = refl; answer₄ = refl; after₄ = refl; hgc-is₄ = refl; answer₅ = refl; after₅ = refl; hgc-is₅ = refl; answer₆ = refl; after₆ = refl }, record { copy-is = refl; answers-are = refl; their-copy = refl; their-answers = refl }))

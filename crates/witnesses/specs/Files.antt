@@ -1,5 +1,5 @@
 -- Small files, lines and rows, for witnesses. Assumes nothing.
-use mathlib.Core.List.{List, [], _∷_, _++_}
+use mathlib.Core.List.{List, [], _++_}
 use Prim.Native.Nat.{ℕ}
 use lib.ListN.{replicate}
 use Rattle.theory.specs.Text.{bytes}

@@ -2,11 +2,9 @@
 -- file again. The copies are updated afterwards, and hold what we hold for each: so demand 3 speaks of sequences that there are.
 -- Assumes nothing.
 use mathlib.Core.Path.{_≡_, refl, sym}
-use mathlib.Core.Bool.{true, false}
 use mathlib.Core.List.{List, [], _∷_, _++_}
 use Prim.Native.Nat.{ℕ}
 use native.Mathlib.Omega.{arith}
-use lib.ListN.{take, drop}
 use Rattle.theory.specs.Same.{eqs}
 use Rattle.theory.specs.Keep.{onto, sift}
 use Rattle.theory.specs.Join.{flat}
@@ -16,13 +14,12 @@ use Rattle.sizes.specs.Sizes.{slotLength}
 use Rattle.slots.specs.Slots.{records}
 use Rattle.importer.specs.declared.Imported.{Imported}
 use Rattle.importer.specs.Promises.{Import}
-use Rattle.provider.specs.declared.Counted.{Counted}
 use Rattle.provider.specs.Promises.{Update}
 use Rattle.demands.specs.Own.{own}
-use Rattle.demands.specs.History.{Handed, Imports, Sent, Entry, apply, Event, acceptance, concerns, his, entries, empty, _▸_, Ours, start, accepted, refused, Replay, applied}
+use Rattle.demands.specs.History.{Handed, Imports, apply, Event, acceptance, concerns, his, entries, empty, _▸_, Ours, start, accepted, refused, Replay, applied}
 use Rattle.demands.specs.Demand3.{copy-is}
 use Rattle.witnesses.specs.Files as files
-use Rattle.witnesses.specs.Computed.{answerTo, after, bufferAfter, counts4, file₁, file₂, file₃, file₄, file₅, file₆, register₁, register₂, register₄, register₅, hgc₁, hgc₂, hgc₄, hgc₅, Six, Late, sent, copyBy, answersBy, counts3, started, late, computed}
+use Rattle.witnesses.specs.Computed.{answerTo, after, bufferAfter, counts4, file₁, file₂, file₃, file₄, file₅, file₆, register₁, register₂, register₄, register₅, hgc₁, hgc₂, hgc₄, hgc₅, Six, Late, sent, copyBy, answersBy, counts3, computed}
 
 six : Six
 six = computed .1 .0

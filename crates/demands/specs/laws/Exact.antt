@@ -32,9 +32,8 @@ use Rattle.importer.specs.Import.{judged, following, confirmed, numberOf, succe
 use Rattle.importer.specs.Promises.{Import}
 use Rattle.importer.specs.laws.Follows.{adds-up, holds-following, others-same, places-same}
 use Rattle.provider.specs.declared.Counted.{Counted}
-use Rattle.provider.specs.Answer.{refusal}
 use Rattle.provider.specs.Promises.{ReadBack}
-use Rattle.demands.specs.laws.Read.{sentBack, sameCounts, short-answer, short-block, read-answer, read-verdicts}
+use Rattle.demands.specs.laws.Read.{sentBack, sameCounts, read-answer, read-verdicts}
 use Rattle.demands.specs.History.{Handed, Imports}
 use Rattle.demands.specs.laws.Imports.{number-0, done-is, register-is, hgc-is}
 use Rattle.demands.specs.Verdicts.{Verdicts}
@@ -64,9 +63,6 @@ module _ (f : Handed) (register : List ℕ) (r : Imported) (b g : List ℕ) (o :
 
   pub order-again : inOrder b ≡ true
   order-again = holds .order
-
-  pub slots-same : slotsIn b ≡ slotsIn register
-  slots-same = holds .many
 
   -- the records, and free slots behind them
   pub bytes-are : b ≡ flat (pad slotLength (slotsIn register) (records b))
@@ -104,7 +100,7 @@ module _ (f : Handed) (register : List ℕ) (r : Imported) (b g : List ℕ) (o :
     unfolding success
     rejected-is = ap (λ (a : Imported). a .rejected) (done-is f register r b g o z) ∙ ap (tally bad) judged-is
 
-    pub records-are : records b ≡ holdings (f .mode) from (f .reception) (records register) (pick good vs (linesOf (f .hgv)))
+    pub records-are : records b ≡ holdings (f .mode) from (recordOf (f .reception)) (records register) (pick good vs (linesOf (f .hgv)))
     unfolding following taken
     records-are = holds .held ∙ rw judged-is
 
@@ -124,11 +120,4 @@ module _ (f : Handed) (register : List ℕ) (r : Imported) (b g : List ℕ) (o :
       read-is m = (
         rw (p .0, o .1 .1, o .0) (read-answer (f .mode) (f .reception) register (f .rows) (f .hgv) (f .hgc) e block m),
         rw (p .1, o .1 .1, o .0, ← judged-is) (read-verdicts (f .mode) (f .reception) register (f .rows) (f .hgv) (f .hgc) e block m),
-      )
-
-      pub short-is : length block < linesIn (f .hgv) → (u ≡ refusal 53) × (w ≡ block)
-      unfolding Import ReadBack sentBack
-      short-is m = (
-        rw (p .0, o .1 .1, o .0) (short-answer (f .mode) (f .reception) register (f .rows) (f .hgv) (f .hgc) e block m),
-        rw (p .1, o .1 .1, o .0) (short-block (f .mode) (f .reception) register (f .rows) (f .hgv) (f .hgc) e block m),
       )

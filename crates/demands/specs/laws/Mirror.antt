@@ -1,11 +1,12 @@
 -- T12: a provider who applies what an accepted import of his sent back is answered 0 with the import's own counts, and his
 -- copy holds again the records held for him. Another's import, and a refused one, leave them as they are. Assumes nothing.
-use mathlib.Core.Path.{_≡_, refl, sym, _∙_}
+use mathlib.Core.Path.{_≡_, sym, _∙_}
 use mathlib.Core.Bool.{true, false}
 use mathlib.Core.List.{List}
 use Prim.Native.Nat.{ℕ, _≤_}
 use lib.ListN.{length}
 use borrow.Author.Tests.{le-ltb}
+use Rattle.lines.specs.End.{recordOf}
 use Rattle.theory.specs.Same.{eqs}
 use Rattle.theory.specs.First.{first, choose}
 use Rattle.theory.specs.laws.Stopped.{at-success}
@@ -22,7 +23,7 @@ use Rattle.applying.specs.laws.Follows.{follows}
 use Rattle.stops.specs.laws.Clear.{Clear}
 use Rattle.importer.specs.Import.{judged, following, numberOf, registerAfter}
 use Rattle.importer.specs.laws.Accepted.{lines-his}
-use Rattle.importer.specs.laws.Numbers.{accepted-clear, stop-register, done-register}
+use Rattle.importer.specs.laws.Numbers.{accepted-clear, done-register}
 use Rattle.importer.specs.laws.Follows.{fit, holds-following, others-same}
 use Rattle.provider.specs.Update.{ownHolds, copyStops, following as copied, roomStops, updateNumber, updateAnswer, updated, copyAfter}
 use Rattle.demands.specs.laws.ReadBack.{reception-read, taken-are, hgc-cut}
@@ -71,7 +72,7 @@ module _ (mode : ℕ) (reception register rows h hgc : List ℕ) (e : numberOf m
     his-own = rw (m .held) (passes-each (ofActor (sender h)) (sift-passes (ofActor (sender h)) (records register)))
 
     -- the records that follow in the copy, by the HGC's reception and the lines read off as taken
-    copied-is : copied mode copy h g ≡ holdings mode (sender h) reception (records copy) ls
+    copied-is : copied mode copy h g ≡ holdings mode (sender h) (recordOf reception) (records copy) ls
     unfolding copied sentBack
     copied-is =
         rw (
@@ -86,13 +87,13 @@ module _ (mode : ℕ) (reception register rows h hgc : List ℕ) (e : numberOf m
     copied-own =
         copied-is
         ∙ rw (m .held)
-        (sym (own-holdings mode (sender h) reception (slotsIn register) (records register) ls (fit mode reception register rows h hgc e) (lines-his mode reception register rows h c)))
+        (sym (own-holdings mode (sender h) (recordOf reception) (slotsIn register) (records register) ls (fit mode reception register rows h hgc e) (lines-his mode reception register rows h c)))
 
     -- the taken lines fit the copy
-    fit-copy : Fit mode (sender h) reception (slotsIn copy) (records copy) ls
+    fit-copy : Fit mode (sender h) (recordOf reception) (slotsIn copy) (records copy) ls
     fit-copy =
         rw (m .many, m .held)
-        (fit-own mode (sender h) reception (slotsIn register) (records register) ls (fit mode reception register rows h hgc e) (lines-his mode reception register rows h c))
+        (fit-own mode (sender h) (recordOf reception) (slotsIn register) (records register) ls (fit mode reception register rows h hgc e) (lines-his mode reception register rows h c))
 
     -- so 33 is not given
     room : length (copied mode copy h g) ≤ slotsIn copy
@@ -101,7 +102,7 @@ module _ (mode : ℕ) (reception register rows h hgc : List ℕ) (e : numberOf m
     -- and what follows is in order
     copy-holds : Holds (slotsIn copy) (copied mode copy h g) (updated mode copy h g)
     unfolding updated
-    copy-holds = rw copied-is (follows mode (sender h) reception copy ls (m .order) fit-copy)
+    copy-holds = rw copied-is (follows mode (sender h) (recordOf reception) copy ls (m .order) fit-copy)
 
     -- ---- the call
 
@@ -135,9 +136,3 @@ module _ (mode : ℕ) (reception register rows h hgc : List ℕ) (e : numberOf m
     unfolding copyAfter
     update-mirrors =
         rw (at-success (updateNumber mode copy h g) (updated mode copy h g) copy update-number, after-holds .many, after-holds .held, ← copied-own, ← m .many) copy-holds
-
--- a refused import leaves the register, and so the copy
-pub refused-mirrors : (mode : ℕ) (reception register rows h hgc who copy : List ℕ) → (numberOf mode reception register rows h hgc ≡ 0 → ⊥) → Mirrors who register copy
-    → Mirrors who (registerAfter mode reception register rows h hgc) copy
-refused-mirrors mode reception register rows h hgc who copy k m =
-    rw (← stop-register mode reception register rows h hgc (numberOf mode reception register rows h hgc) refl k) m

@@ -15,7 +15,6 @@ use Rattle.theory.specs.Walk.{some}
 use Rattle.theory.specs.Keep.{onto, sift}
 use Rattle.theory.specs.laws.Keep.{sift-append, sift-length, sift-passes, sift-all, sift-apart, sift-inside}
 use Rattle.columns.specs.Columns.{actor, panOf}
-use Rattle.lines.specs.End.{recordOf}
 use Rattle.slots.specs.Search.{holdsPan, ofActor, holdsForeign, heldByAnother}
 use Rattle.holdings.specs.Holdings.{storedOn, stored, storedAll, others, replacedAll, holdings}
 use Rattle.sizes.specs.Modes.{isFull}
@@ -62,29 +61,28 @@ module _ (who : List ℕ) where
   none-others R = sift-apart (λ r. not (ofActor who r)) (ofActor who) (λ r e. ap not e) R
 
 -- the lines fit, and are the sender's own
-module _ (mode : ℕ) (who reception : List ℕ) (slots : ℕ) (R ls : List (List ℕ)) (f : Fit mode who reception slots R ls) (his : Each (λ l. ofActor who l ≡ true) ls) where
+module _ (mode : ℕ) (who : List ℕ) (make : List ℕ → List ℕ) (slots : ℕ) (R ls : List (List ℕ)) (f : Fit mode who make slots R ls) (his : Each (λ l. ofActor who l ≡ true) ls) where
   abbrev xs : List (List ℕ)
-  xs = map (recordOf reception) ls
+  xs = map make ls
 
   -- what follows of his own is his own of what follows, in either mode
-  pub own-holdings : own who (holdings mode who reception R ls) ≡ holdings mode who reception (own who R) ls
+  pub own-holdings : own who (holdings mode who make R ls) ≡ holdings mode who make (own who R) ls
   unfolding holdings replacedAll
   own-holdings = go (isFull mode)
     where
       go : (full : Bool) → own who (cond full (others who R ++ xs) (storedAll R xs)) ≡ cond full (others who (own who R) ++ xs) (storedAll (own who R) xs)
-      go true = own-behind who R xs (each-own mode who reception slots R ls f his) ∙ rw (none-others who R)
-      go false = own-all who xs R (each-own mode who reception slots R ls f his) (each-free mode who reception slots R ls f his)
+      go true = own-behind who R xs (each-own mode who make slots R ls f his) ∙ rw (none-others who R)
+      go false = own-all who xs R (each-own mode who make slots R ls f his) (each-free mode who make slots R ls f his)
 
   -- so the lines fit his own records too
-  pub fit-own : Fit mode who reception slots (own who R) ls
+  pub fit-own : Fit mode who make slots (own who R) ls
   unfolding own
   fit-own =
       record {
-        received = f .received;
-        lined = f .lined;
+        made = f .made;
         apart = f .apart;
         free = each-map (λ l k. own-free who (panOf l) (sift-passes (ofActor who) R)) (f .free);
-        room = rw (← own-holdings) (omega (arith, sift-length (ofActor who) (holdings mode who reception R ls), f .room));
+        room = rw (← own-holdings) (omega (arith, sift-length (ofActor who) (holdings mode who make R ls), f .room));
       }
 
 -- ---- another's

@@ -1,15 +1,14 @@
 -- T11: reading back what an accepted import wrote answers 0 with the import's own counts, and writes its verdicts, one byte
 -- for each line; bytes behind the n-th stay. Assumes nothing.
-use mathlib.Core.Path.{_≡_, ap, _∙_}
+use mathlib.Core.Path.{_≡_, _∙_}
 use mathlib.Core.Bool.{true}
 use mathlib.Core.List.{List, _++_}
-use Prim.Native.Nat.{ℕ, _≤_, _<_}
-use native.Mathlib.Omega.{arith}
+use Prim.Native.Nat.{ℕ, _≤_}
 use lib.ListN.{length, take, drop}
-use borrow.Author.Tests.{lt-ltb, le-ltb}
+use borrow.Author.Tests.{le-ltb}
 use Rattle.theory.specs.laws.Truth.{and-left}
 use Rattle.theory.specs.First.{first, choose}
-use Rattle.theory.specs.laws.Stopped.{at-stop, at-success}
+use Rattle.theory.specs.laws.Stopped.{at-success}
 use Rattle.hgv.specs.Layout.{linesIn}
 use Rattle.claims.specs.Claims.{receiverHolds}
 use Rattle.stops.specs.Stops.{addressed}
@@ -18,7 +17,7 @@ use Rattle.receipts.specs.Receipt.{receiptHolds}
 use Rattle.importer.specs.Import.{judged, numberOf, success, answer, hgcAfter}
 use Rattle.importer.specs.laws.Numbers.{accepted-clear, done-answer}
 use Rattle.provider.specs.declared.Counted.{Counted}
-use Rattle.provider.specs.Answer.{refusal, counted}
+use Rattle.provider.specs.Answer.{counted}
 use Rattle.provider.specs.ReadBack.{readVerdicts, fileStops, blockStops, readNumber, readAnswer, toldTo, verdictsAfter}
 use Rattle.demands.specs.laws.ReadBack.{receipt, read-back, count-taken, count-rejected, hgc-cut}
 
@@ -71,28 +70,6 @@ module _ (mode : ℕ) (reception register rows h hgc : List ℕ) (e : numberOf m
     stops-but-53 =
         let c : Clear mode reception register rows h = accepted-clear mode reception register rows h hgc e in
         rw (c .sized, c .headed, c .versioned, addressed-receiver rows h (c .sent), c .counted, c .footed, c .framed)
-
-    -- ---- a block under n bytes
-
-    module _ (s : length block < linesIn h) where
-      -- 53
-      pub short-number : readNumber h g block ≡ 53
-      unfolding blockStops first choose
-      short-number = stops-but-53 ∙ rw (receipt-holds, lt-ltb (length block) (linesIn h) s)
-
-      -- so it stops
-      stopped : readNumber h g block ≡ 0 → ⊥
-      stopped z = omega (arith, short-number)
-
-      -- zero counts
-      pub short-answer : readAnswer h g block ≡ refusal 53
-      unfolding readAnswer
-      short-answer = at-stop (readNumber h g block) _ _ stopped ∙ ap refusal short-number
-
-      -- and nothing is written
-      pub short-block : verdictsAfter h g block ≡ block
-      unfolding verdictsAfter
-      short-block = at-stop (readNumber h g block) _ _ stopped
 
     -- ---- a block of n bytes or more
 

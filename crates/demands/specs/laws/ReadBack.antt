@@ -22,7 +22,7 @@ use Rattle.numbers.specs.Number.{number, decimal}
 use Rattle.numbers.specs.laws.Number.{number-2, number-15}
 use Rattle.times.specs.laws.Moment.{real-length}
 use Rattle.columns.specs.Columns.{text, panOf}
-use Rattle.hgv.specs.Layout.{linesIn, linesOf}
+use Rattle.hgv.specs.Layout.{widthOf, linesIn, linesOf}
 use Rattle.sizes.specs.Sizes.{lineLength, linesMost}
 use Rattle.hgv.specs.laws.Layout.{length-lines, each-lined, lines-most}
 use Rattle.frames.specs.Frames.{framed, framesHold}
@@ -63,7 +63,7 @@ line-is l (f, n) = sym (framed-is lineLength l f n (omega arith))
 
 -- lines in their frames are made of their texts
 pub lines-made : (h : List ℕ) → framesHold h ≡ true → map line (textsOf h) ≡ linesOf h
-unfolding framesHold textsOf
+unfolding framesHold textsOf widthOf
 lines-made h f =
     map-map line text (linesOf h) ∙ map-fixed (λ l. line (text l)) (each-map line-is (each-both (each-passes (framed lineLength) (linesOf h) f) (each-lined h)))
 

@@ -19,7 +19,7 @@ use Rattle.numbers.specs.laws.Number.{length-decimal}
 use Rattle.columns.specs.Columns.{text}
 use Rattle.hgv.specs.Layout.{linesIn, lengthHolds, linesOf}
 use Rattle.sizes.specs.Sizes.{lineLength, footerLength, hgcHeaderLength}
-use Rattle.hgv.specs.laws.Layout.{width-is, length-lines, each-lined, length-least}
+use Rattle.hgv.specs.laws.Layout.{length-lines, each-lined, length-least}
 use Rattle.header.specs.Header.{sender, listSequence}
 use Rattle.hgc.specs.Confirmation.{answerLength, confirmationLength, zeros, outcome, names, counts, head, answer, answers, foot, confirmation}
 

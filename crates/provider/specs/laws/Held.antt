@@ -4,7 +4,6 @@ use mathlib.Core.Path.{_≡_, sym, ap, _∙_}
 use mathlib.Core.Bool.{true, false, _&&_}
 use mathlib.Core.List.{List}
 use Prim.Native.Nat.{ℕ, _≤_}
-use native.Mathlib.Omega.{arith}
 use lib.ListN.{length, length-map}
 use Rattle.theory.specs.laws.Truth.{and-left, and-right}
 use Rattle.theory.specs.Each.{Each}
@@ -16,7 +15,6 @@ use Rattle.theory.specs.Pick.{good, bad}
 use Rattle.theory.specs.Tally.{tally}
 use Rattle.theory.specs.laws.Tally.{tally-pick}
 use Rattle.times.specs.Time.{realTime}
-use Rattle.times.specs.laws.Moment.{real-length}
 use Rattle.columns.specs.Columns.{panOf}
 use Rattle.lines.specs.Rules.{recordHolds}
 use Rattle.lines.specs.End.{recordOf}

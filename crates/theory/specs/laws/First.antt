@@ -25,10 +25,6 @@ pub first-hit : (r : Rule) (rs : List Rule) → r .fits ≡ true → first (r �
 unfolding first choose
 first-hit r rs h = rw h
 
-pub first-miss : (r : Rule) (rs : List Rule) → r .fits ≡ false → first (r ∷ rs) ≡ first rs
-unfolding first choose
-first-miss r rs h = rw h
-
 -- behind rules that do not fit, the next decides
 pub first-behind : {rs : List Rule} → None rs → (r : Rule) (qs : List Rule) → r .fits ≡ true → first (rs ++ r ∷ qs) ≡ r .number
 unfolding first choose
@@ -74,10 +70,6 @@ first-fits (r ∷ rs) k h n = go (r .fits) refl h (λ e. first-fits rs k e n)
           named = f .named;
         }
 
--- and only then
-pub fits-first : (rs : List Rule) (k : ℕ) → Fits k rs → first rs ≡ k
-fits-first rs k f = rw (f .split) (first-behind (f .passed) (f .rule) (f .behind) (f .fits) ∙ f .named)
-
 pub decided : (rs : List Rule) → numbered rs ≡ true → (n : ℕ) → n ≡ first rs → Decided rs n
 decided rs m n e =
     record {
@@ -85,13 +77,6 @@ decided rs m n e =
       clear = λ z. first-clear rs m (sym e ∙ z);
       by-none = λ k. e ∙ first-none k;
     }
-
--- one rule less, of those that do not fit
-pub none-head : (r : Rule) (rs : List Rule) → None (r ∷ rs) → r .fits ≡ false
-none-head r rs (more e n) = e
-
-pub none-tail : (r : Rule) (rs : List Rule) → None (r ∷ rs) → None rs
-none-tail r rs (more e n) = n
 
 -- ---- rules behind rules
 

@@ -11,8 +11,6 @@ use lib.Seq.{set-append-left, set-at, take-at, drop-at}
 use Rattle.theory.specs.Parts.{chop}
 use Rattle.theory.specs.Each.{Each, none, more}
 use Rattle.theory.specs.laws.Each.{each-append, each-replicate}
-use Rattle.theory.specs.Keep.{sift}
-use Rattle.theory.specs.laws.Keep.{sift-append, sift-all, sift-none}
 use Rattle.theory.specs.Join.{flat}
 use Rattle.theory.specs.laws.Join.{flat-append, length-flat, chop-flat, chop-take}
 use Rattle.theory.specs.Put.{putPart}
@@ -58,10 +56,6 @@ module _ (w n : ℕ) {R : List (List ℕ)} where
     unfolding pad
     front-pad = front-append p (replicate (n - length R) (free w)) u ∙ rw (front-replicate p (free w) (n - length R) f) (append-nil R)
 
-    pub sift-pad : sift p (pad w n R) ≡ R
-    unfolding pad
-    sift-pad = sift-append p R _ ∙ rw (sift-all p u, sift-none p (each-replicate {q = λ r. p r ≡ false} (n - length R) (free w) f)) (append-nil R)
-
   -- ---- in bytes
 
   module _ (h : Each (λ r. length r ≡ w) R) where
@@ -71,10 +65,6 @@ module _ (w n : ℕ) {R : List (List ℕ)} where
 
       pub chop-pad : chop w n (flat (pad w n R)) ≡ pad w n R
       chop-pad = rw (length-pad w n R l) at (chop-flat w (each-pad h))
-
-      -- the records are read back from the bytes
-      pub read-pad : (p : List ℕ → Bool) → p (free w) ≡ false → Each (λ r. p r ≡ true) R → front p (chop w n (flat (pad w n R))) ≡ R
-      read-pad p f u = rw chop-pad (front-pad p f u)
 
       -- they are the first parts
       pub records-pad : chop w (length R) (flat (pad w n R)) ≡ R

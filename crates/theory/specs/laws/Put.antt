@@ -1,19 +1,16 @@
 -- Laws of one part of a block replaced by another of its width. Assumes nothing.
-use mathlib.Core.Path.{_≡_, refl, sym, ap, _∙_}
-use mathlib.Core.Bool.{Bool, true, false}
+use mathlib.Core.Path.{_≡_, ap, _∙_}
 use mathlib.Core.List.{List, [], _∷_, _++_, append-assoc}
 use Prim.Native.Nat.{ℕ, zero, suc, _+_, _-_, _*_, _≤_, _<_}
 use native.Mathlib.Omega.{arith}
-use native.Mathlib.Nat.{zero-mul, zero-add, mul-le-mul-right, add-sub-cancel-left}
-use lib.Dec.{leb}
-use lib.ListN.{length, take, drop, set, length-append, length-take, length-drop, take-append-drop}
-use lib.Seq.{length-take-le, take-append-le, drop-append-add, take-take, take-add, take-at, drop-at, drop-drop, set-at}
-use borrow.Author.Tests.{leb-true, leb-false}
+use native.Mathlib.Nat.{zero-mul, zero-add, add-sub-cancel-left}
+use lib.ListN.{length, take, drop, set, length-append, length-take, length-drop}
+use lib.Seq.{length-take-le, drop-append-add, take-add, take-at, drop-at, drop-drop, set-at}
 use Rattle.theory.specs.Parts.{chop, partAt}
-use Rattle.theory.specs.laws.Parts.{partsFrom, part-fits, length-chop}
+use Rattle.theory.specs.laws.Parts.{part-fits, length-chop}
 use Rattle.theory.specs.Each.{Each}
 use Rattle.theory.specs.Join.{flat}
-use Rattle.theory.specs.laws.Join.{length-flat, chop-flat, flat-chop, chop-take, chop-snoc, getD-chop}
+use Rattle.theory.specs.laws.Join.{length-flat, chop-flat, flat-chop, chop-snoc}
 use Rattle.theory.specs.Put.{putPart}
 
 pub put-ap : (w i : ℕ) {x y : List ℕ} (b : List ℕ) → x ≡ y → putPart w i x b ≡ putPart w i y b
@@ -24,11 +21,6 @@ pub put-lent : (w i : ℕ) (x y b : List ℕ) → y ≡ x → take (i * w) b ++ 
 unfolding putPart
 put-lent w i x y b e = rw (add-sub-cancel-left (i * w) w, e, drop-drop)
 
--- a part put back as it was
-pub put-same : (w i : ℕ) (b : List ℕ) → putPart w i (partAt w i b) b ≡ b
-unfolding putPart partAt
-put-same w i b = rw (← drop-drop w (i * w) b, take-append-drop w (drop (i * w) b)) (take-append-drop (i * w) b)
-
 module _ (w i : ℕ) (x b : List ℕ) (fits : i * w + w ≤ length b) (wide : length x ≡ w) where
   pub length-put : length (putPart w i x b) ≡ length b
   unfolding putPart
@@ -36,11 +28,6 @@ module _ (w i : ℕ) (x b : List ℕ) (fits : i * w + w ≤ length b) (wide : le
 
   before : length (take (i * w) b) ≡ i * w
   before = length-take-le (i * w) b (omega arith)
-
-  -- what lies before the part is as it was
-  pub take-put : (m : ℕ) → m ≤ i * w → take m (putPart w i x b) ≡ take m b
-  unfolding putPart
-  take-put m h = take-append-le m (take (i * w) b) (x ++ drop (i * w + w) b) (omega (arith, before)) ∙ take-take m (i * w) b h
 
   -- and so is what lies behind it
   pub drop-put : (m : ℕ) → i * w + w ≤ m → drop m (putPart w i x b) ≡ drop m b
@@ -52,11 +39,6 @@ module _ (w i : ℕ) (x b : List ℕ) (fits : i * w + w ≤ length b) (wide : le
       let g : i * w + w + (m - (i * w + w)) ≡ m = omega arith in
       rw (← append-assoc (take (i * w) b) x d)
       (ap (λ (n : ℕ). drop n (a ++ d)) e ∙ drop-append-add a d (m - (i * w + w)) ∙ drop-drop (m - (i * w + w)) (i * w + w) b ∙ ap (λ (n : ℕ). drop n b) g)
-
-  -- the part is x
-  pub part-put : partAt w i (putPart w i x b) ≡ x
-  unfolding putPart partAt
-  part-put = rw (drop-at (take (i * w) b) (x ++ drop (i * w + w) b) (i * w) before) (take-at x (drop (i * w + w) b) w wide)
 
 -- the parts, one of them replaced
 pub chop-put : (w n i : ℕ) (x b : List ℕ) → i < n → n * w ≤ length b → length x ≡ w → chop w n (putPart w i x b) ≡ set (chop w n b) i x
@@ -86,31 +68,6 @@ module _ (w i : ℕ) (x b : List ℕ) (fits : i * w + w ≤ length b) (wide : le
   chop-push =
       rw (chop-put w (i + 1) i x b (omega arith) (omega arith) wide, chop-snoc w i b)
       (set-at (chop w i b) (partAt w i b) [] x i (length-chop w i b))
-
-  -- the parts before it are as they were
-  pub chop-put-before : (j : ℕ) → j ≤ i → chop w j (putPart w i x b) ≡ chop w j b
-  chop-put-before j h =
-      let m : j * w ≤ i * w = mul-le-mul-right w h in
-      sym (chop-take w j (putPart w i x b) (omega (arith, length-put w i x b fits wide)))
-      ∙ rw (take-put w i x b fits wide (j * w) m) (chop-take w j b (omega arith))
-
-  -- and so are those behind it
-  pub parts-put-behind : (n j : ℕ) → i < j → partsFrom w n j (putPart w i x b) ≡ partsFrom w n j b
-  unfolding partsFrom
-  parts-put-behind n j h = rw (drop-put w i x b fits wide (j * w) (omega (arith, mul-le-mul-right w h)))
-
-  -- each other part is as it was
-  pub part-put-other : (j : ℕ) → (j ≡ i → ⊥) → partAt w j (putPart w i x b) ≡ partAt w j b
-  unfolding partAt
-  part-put-other j n = go (leb i j) refl
-    where
-      go : (c : Bool) → leb i j ≡ c → partAt w j (putPart w i x b) ≡ partAt w j b
-      go true e =
-          let l : i < j = omega (arith, leb-true i j e, n) in
-          rw (drop-put w i x b fits wide (j * w) (omega (arith, mul-le-mul-right w l)))
-      go false e =
-          let l : j < i = leb-false i j e in
-          sym (getD-chop w i (putPart w i x b) j l) ∙ rw (chop-put-before i (omega arith)) (getD-chop w i b j l)
 
 -- the same of parts joined
 pub flat-set : (w i : ℕ) (x : List ℕ) {R : List (List ℕ)} → Each (λ r. length r ≡ w) R → i < length R → length x ≡ w → flat (set R i x) ≡ putPart w i x (flat R)

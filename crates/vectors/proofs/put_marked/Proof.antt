@@ -1,5 +1,5 @@
 -- Assumes nothing.
-use lib.ListN.{length, length-map}
+use lib.ListN.{length-map}
 use Rattle.writing.specs.laws.Put.{put-lent}
 use Rattle.vectors.specs.Vectors.{marked}
 use borrow.Author.Needs.{needs}

@@ -3,7 +3,7 @@ use mathlib.Core.Path.{_∙_}
 use Rattle.hgv.specs.laws.Layout.{lines-room}
 use Rattle.hgv.specs.Layout.{linesOf}
 use Rattle.slots.specs.laws.Slots.{slots-used}
-use Rattle.verdicts.specs.Verdict.{verdictsOf, fileVerdicts}
+use Rattle.verdicts.specs.Verdict.{fileVerdicts}
 use borrow.Author.Needs.{needs}
 use Rattle.verdicts.proofs.judge.Statement.{statement}
 use Rattle.verdicts.proofs.judge.Tie as tie
