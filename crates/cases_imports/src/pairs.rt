@@ -58,7 +58,7 @@ fn tell_verdicts(block: &[u8]) {
 }
 
 fn read_into(block: &mut [u8], hgv: &[u8], hgc: &[u8]) {
-    let r = provider::read_back(hgv, hgc, block);
+    let r = reading::read_back(hgv, hgc, block);
     crate::tell::counts(r.number, r.taken, r.rejected);
     tell_verdicts(block);
 }
@@ -91,7 +91,7 @@ fn tell_copy(number: u64, f: &[u8], samples: &[u8; 33280], copy: &[u8]) {
 
 fn update_copy(f: &[u8], samples: &[u8; 33280], copy: &mut [u8], hgv: &[u8], hgc: &[u8]) {
     let mode = number_in(texts::field(f, 1, 1)) as u64;
-    let r = provider::update(mode, copy, hgv, hgc);
+    let r = updating::update(mode, copy, hgv, hgc);
     crate::tell::counts(r.number, r.taken, r.rejected);
     tell_copy(r.number, f, samples, copy);
 }

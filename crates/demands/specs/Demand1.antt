@@ -11,9 +11,10 @@ use Rattle.importer.specs.declared.Imported.{Imported}
 use Rattle.importer.specs.Import.{stops}
 use Rattle.importer.specs.Promises.{Import}
 use Rattle.provider.specs.declared.Counted.{Counted}
-use Rattle.provider.specs.ReadBack.{fileStops, blockStops}
-use Rattle.provider.specs.Update.{copyStops, roomStops}
-use Rattle.provider.specs.Promises.{ReadBack, Update}
+use Rattle.reading.specs.ReadBack.{fileStops, blockStops}
+use Rattle.updating.specs.Update.{copyStops, roomStops}
+use Rattle.reading.specs.Promises.{ReadBack}
+use Rattle.updating.specs.Promises.{Update}
 use Rattle.demands.specs.History.{Handed, Imports}
 use Rattle.demands.specs.laws.Imports as imports
 use Rattle.demands.specs.laws.Answered as answered

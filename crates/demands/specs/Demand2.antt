@@ -25,7 +25,7 @@ use Rattle.hgc.specs.Confirmation.{confirmation}
 use Rattle.holdings.specs.Holdings.{others, holdings}
 use Rattle.importer.specs.declared.Imported.{Imported}
 use Rattle.provider.specs.declared.Counted.{Counted}
-use Rattle.provider.specs.Promises.{ReadBack}
+use Rattle.reading.specs.Promises.{ReadBack}
 use Rattle.demands.specs.History.{Handed, Imports}
 use Rattle.demands.specs.Verdicts.{takenBefore, Verdicts, Unbroken}
 use Rattle.demands.specs.laws.Judging.{verdicts-there, verdicts-only, unbroken, none-fits}

@@ -13,7 +13,7 @@ use Rattle.sizes.specs.Sizes.{slotLength, slotsMost}
 use Rattle.importer.specs.declared.Imported.{Imported}
 use Rattle.importer.specs.Promises.{Import}
 use Rattle.provider.specs.declared.Counted.{Counted}
-use Rattle.provider.specs.Promises.{Update}
+use Rattle.updating.specs.Promises.{Update}
 
 -- what is handed over at an import beside the register: the mode, the reception, the issuer rows, the HGV, the HGC's buffer
 pub record Handed : Type 0 where

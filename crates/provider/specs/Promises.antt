@@ -1,19 +1,22 @@
 -- What each public function of this crate promises. Assumes nothing.
 use mathlib.Core.Path.{_≡_}
+use mathlib.Core.Bool.{Bool}
 use mathlib.Core.List.{List}
 use Prim.Native.Nat.{ℕ}
+use Rattle.pairing.specs.Backwards.{paired}
+use Rattle.receipts.specs.Receipt.{textsOf, copiesOf, receiptHolds}
 use Rattle.provider.specs.declared.Counted.{Counted}
-use Rattle.provider.specs.ReadBack.{readAnswer, verdictsAfter}
-use Rattle.provider.specs.Update.{updateAnswer, copyAfter}
+use Rattle.provider.specs.Answer.{refusal, counted}
 
--- the answer, and the verdict block after it
-unfoldable pub ReadBack : List ℕ → List ℕ → List ℕ → Counted → List ℕ → Type 0
-ReadBack h g block r v =
-    (r ≡ readAnswer h g block)
-    × (v ≡ verdictsAfter h g block)
+abbrev pub Refused : ℕ → Counted → Type 0
+Refused number r = r ≡ refusal number
 
--- the answer, and the copy after it
-unfoldable pub Update : ℕ → List ℕ → List ℕ → List ℕ → Counted → List ℕ → Type 0
-Update mode copy h g r b =
-    (r ≡ updateAnswer mode copy h g)
-    × (b ≡ copyAfter mode copy h g)
+-- of an HGC that holds; the marks say which lines were taken
+abbrev pub Count : List ℕ → List ℕ → List ℕ → Counted → Type 0
+Count h g _ r = r ≡ counted h g
+
+-- whether it holds, and a mark for each line: 0 where it was taken, if it does
+abbrev pub IsReceipt : List ℕ → List ℕ → List ℕ → Bool → List ℕ → Type 0
+IsReceipt h g _ r after =
+    (r ≡ receiptHolds h g)
+    × (after ≡ paired (textsOf h) (copiesOf g))

@@ -3,7 +3,8 @@
 use mathlib.Core.List.{List}
 use Prim.Native.Nat.{ℕ}
 use Rattle.provider.specs.declared.Counted.{Counted}
-use Rattle.provider.specs.Promises.{ReadBack, Update}
+use Rattle.reading.specs.Promises.{ReadBack}
+use Rattle.updating.specs.Promises.{Update}
 
 -- the three numbers as both answer them
 abbrev pub countedAs : ℕ → ℕ → ℕ → Counted

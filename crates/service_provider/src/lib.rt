@@ -13,7 +13,7 @@ pub extern "C" fn graftspindle_read_back(
 ) -> u64
     ensures { λ r. ⌜ GraftspindleReadBack (now (hgv .entry)) (now (hgc .entry)) (now (verdicts .entry)) r (now (taken .exit)) (now (rejected .exit)) (now (verdicts .exit)) ⌝ }
 {
-    let read = provider::read_back(hgv, hgc, verdicts);
+    let read = reading::read_back(hgv, hgc, verdicts);
     *taken = read.taken;
     *rejected = read.rejected;
     read.number
@@ -31,7 +31,7 @@ pub extern "C" fn graftspindle_update(
 ) -> u64
     ensures { λ r. ⌜ GraftspindleUpdate mode (now (copy .entry)) (now (hgv .entry)) (now (hgc .entry)) r (now (taken .exit)) (now (rejected .exit)) (now (copy .exit)) ⌝ }
 {
-    let updated = provider::update(mode, copy, hgv, hgc);
+    let updated = updating::update(mode, copy, hgv, hgc);
     *taken = updated.taken;
     *rejected = updated.rejected;
     updated.number

@@ -54,7 +54,7 @@ use Rattle.pairing.specs.Pairing.{isTaken, marksFrom, marks, left}
 use Rattle.receipts.specs.Receipt.{answersIn, behindHead, answersOf, lengthForm, headForm, answerForm, formHolds, namesHold, outcomeHolds, reasonHolds, textsOf, copiesOf, marksOf, takenBy, sameTexts, copiesHold, countsHold, lineHolds, takenHold, saysHold, linesHold, receiptHolds}
 use Rattle.provider.specs.declared.Counted.{Counted}
 use Rattle.provider.specs.Answer.{refusal as turnedDown, counted as told-counts}
-use Rattle.provider.specs.Update.{ownHolds, copyStops, following as copied, roomStops as copyRoom, updateNumber, updateAnswer, updated, copyAfter}
+use Rattle.updating.specs.Update.{ownHolds, copyStops, following as copied, roomStops as copyRoom, updateNumber, updateAnswer, updated, copyAfter}
 use Rattle.demands.specs.History.{Handed, Sent, empty}
 use Rattle.witnesses.specs.Files as files
 

@@ -14,7 +14,7 @@ use Rattle.sizes.specs.Sizes.{slotLength}
 use Rattle.slots.specs.Slots.{records}
 use Rattle.importer.specs.declared.Imported.{Imported}
 use Rattle.importer.specs.Promises.{Import}
-use Rattle.provider.specs.Promises.{Update}
+use Rattle.updating.specs.Promises.{Update}
 use Rattle.demands.specs.Own.{own}
 use Rattle.demands.specs.History.{Handed, Imports, apply, Event, acceptance, concerns, his, entries, empty, _▸_, Ours, start, accepted, refused, Replay, applied}
 use Rattle.demands.specs.Demand3.{copy-is}

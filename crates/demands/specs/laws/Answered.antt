@@ -10,10 +10,12 @@ use Rattle.lookups.specs.Lookup.{panRules, panNumber, plateRules, plateNumber}
 use Rattle.lookups.specs.Promises.{ByPan, ByPlate}
 use Rattle.provider.specs.declared.Counted.{Counted}
 use Rattle.provider.specs.Answer.{refusal, counted}
-use Rattle.provider.specs.ReadBack.{fileStops, blockStops, readNumber, readAnswer}
-use Rattle.provider.specs.Update.{copyStops, roomStops, updateNumber, updateAnswer}
-use Rattle.provider.specs.Promises.{ReadBack, Update}
-use Rattle.provider.specs.laws.Numbers.{read-refused, verdicts-stay, update-refused, copy-stays}
+use Rattle.reading.specs.ReadBack.{fileStops, blockStops, readNumber, readAnswer}
+use Rattle.updating.specs.Update.{copyStops, roomStops, updateNumber, updateAnswer}
+use Rattle.reading.specs.Promises.{ReadBack}
+use Rattle.updating.specs.Promises.{Update}
+use Rattle.reading.specs.laws.Numbers.{read-refused, verdicts-stay}
+use Rattle.updating.specs.laws.Numbers.{update-refused, copy-stays}
 
 -- ---- reading back
 

@@ -32,7 +32,7 @@ use Rattle.importer.specs.Import.{judged, following, confirmed, numberOf, succe
 use Rattle.importer.specs.Promises.{Import}
 use Rattle.importer.specs.laws.Follows.{adds-up, holds-following, others-same, places-same}
 use Rattle.provider.specs.declared.Counted.{Counted}
-use Rattle.provider.specs.Promises.{ReadBack}
+use Rattle.reading.specs.Promises.{ReadBack}
 use Rattle.demands.specs.laws.Read.{sentBack, sameCounts, read-answer, read-verdicts}
 use Rattle.demands.specs.History.{Handed, Imports}
 use Rattle.demands.specs.laws.Imports.{number-0, done-is, register-is, hgc-is}

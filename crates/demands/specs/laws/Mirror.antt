@@ -25,7 +25,7 @@ use Rattle.importer.specs.Import.{judged, following, numberOf, registerAfter}
 use Rattle.importer.specs.laws.Accepted.{lines-his}
 use Rattle.importer.specs.laws.Numbers.{accepted-clear, done-register}
 use Rattle.importer.specs.laws.Follows.{fit, holds-following, others-same}
-use Rattle.provider.specs.Update.{ownHolds, copyStops, following as copied, roomStops, updateNumber, updateAnswer, updated, copyAfter}
+use Rattle.updating.specs.Update.{ownHolds, copyStops, following as copied, roomStops, updateNumber, updateAnswer, updated, copyAfter}
 use Rattle.demands.specs.laws.ReadBack.{reception-read, taken-are, hgc-cut}
 use Rattle.demands.specs.laws.Read.{sentBack, sameCounts, addressed-receiver, receipt-holds, counts-same}
 use Rattle.demands.specs.Own.{own}

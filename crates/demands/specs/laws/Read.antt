@@ -18,7 +18,7 @@ use Rattle.importer.specs.Import.{judged, numberOf, success, answer, hgcAfter}
 use Rattle.importer.specs.laws.Numbers.{accepted-clear, done-answer}
 use Rattle.provider.specs.declared.Counted.{Counted}
 use Rattle.provider.specs.Answer.{counted}
-use Rattle.provider.specs.ReadBack.{readVerdicts, fileStops, blockStops, readNumber, readAnswer, toldTo, verdictsAfter}
+use Rattle.reading.specs.ReadBack.{readVerdicts, fileStops, blockStops, readNumber, readAnswer, toldTo, verdictsAfter}
 use Rattle.demands.specs.laws.ReadBack.{receipt, read-back, count-taken, count-rejected, hgc-cut}
 
 -- the HGC as its provider gets it: the buffer after the import, cut at the length that the import returns

@@ -43,7 +43,7 @@ use Rattle.pairing.specs.laws.Pairing.{mark, pick-marked, told-is}
 use Rattle.pairing.specs.laws.Firsts.{marks-is, left-is}
 use Rattle.pairing.specs.laws.Faithful.{Judges, lines-first}
 use Rattle.receipts.specs.Receipt.{answersIn, answersOf, receptionOf, takenOf, rejectedOf, reasonOf, reasonHolds, textsOf, marksOf, takenBy, copiesHold, countsHold, lineHolds, takenHold, saysHold, linesHold, receiptHolds}
-use Rattle.provider.specs.ReadBack.{reasonsOf, readVerdicts}
+use Rattle.reading.specs.ReadBack.{reasonsOf, readVerdicts}
 use Rattle.receipts.specs.laws.Written.{same-texts, line-holds, each-answered, answers-in, answers-of, taken-of, rejected-of, form-holds, names-hold, outcome-holds, reception-is, copies-of}
 use Rattle.demands.specs.laws.Reasons.{verdict-named, reason-holds}
 

@@ -25,8 +25,8 @@ use Rattle.upkeep.specs.Holds.{Holds}
 use Rattle.importer.specs.declared.Imported.{Imported}
 use Rattle.importer.specs.Promises.{Import}
 use Rattle.provider.specs.declared.Counted.{Counted}
-use Rattle.provider.specs.Promises.{Update}
-use Rattle.provider.specs.laws.Outcomes.{update-one}
+use Rattle.updating.specs.Promises.{Update}
+use Rattle.updating.specs.laws.Outcomes.{update-one}
 use Rattle.demands.specs.laws.Read.{sentBack, sameCounts}
 use Rattle.demands.specs.Own.{own}
 use Rattle.demands.specs.laws.Mirror.{Mirrors, after-holds, another-mirrors, update-answer, update-mirrors}

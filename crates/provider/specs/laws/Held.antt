@@ -1,15 +1,17 @@
 -- What an HGC has that holds: its marks say which lines were taken, and those can be applied to the sender's copy.
 -- Assumes nothing.
 use mathlib.Core.Path.{_≡_, sym, ap, _∙_}
-use mathlib.Core.Bool.{true, false, _&&_}
-use mathlib.Core.List.{List}
+use mathlib.Core.Bool.{Bool, true, false, not, _&&_}
+use mathlib.Core.List.{List, map}
 use Prim.Native.Nat.{ℕ, _≤_}
+use native.Mathlib.Omega.{arith}
 use lib.ListN.{length, length-map}
+use borrow.Author.Tests.{not-false}
 use Rattle.theory.specs.laws.Truth.{and-left, and-right}
+use Rattle.theory.specs.Distinct.{distinct}
 use Rattle.theory.specs.Each.{Each}
 use Rattle.theory.specs.laws.Each.{each-map}
 use Rattle.theory.specs.Walk.{each}
-use Rattle.theory.specs.laws.Walk.{each-passes}
 use Rattle.theory.specs.laws.Parts.{length-chop}
 use Rattle.theory.specs.Pick.{good, bad}
 use Rattle.theory.specs.Tally.{tally}
@@ -22,19 +24,11 @@ use Rattle.upkeep.specs.Makes.{Makes}
 use Rattle.upkeep.specs.laws.Makes.{record-makes}
 use Rattle.hgv.specs.Layout.{linesIn, linesOf}
 use Rattle.hgv.specs.laws.Layout.{length-lines}
-use Rattle.header.specs.Header.{sender}
-use Rattle.slots.specs.Slots.{slotsIn, records}
-use Rattle.slots.specs.Search.{ofActor, heldByAnother}
-use Rattle.holdings.specs.laws.Storing.{own-free}
-use Rattle.holdings.specs.Room.{usedAfter}
-use Rattle.holdings.specs.laws.Room.{used-after}
 use Rattle.pairing.specs.Pairing.{left}
 use Rattle.pairing.specs.Backwards.{paired}
-use Rattle.applying.specs.Fit.{Fit}
 use Rattle.pairing.specs.laws.Pairing.{length-marks}
 use Rattle.receipts.specs.Receipt.{answersIn, answersOf, receptionOf, reasonHolds, textsOf, copiesOf, marksOf, takenBy, formHolds, namesHold, outcomeHolds, saysHold, linesHold, receiptHolds}
 use Rattle.matching.specs.laws.Matching.{Held, held, taken-marks, taken-count as count-taken}
-use Rattle.provider.specs.Update.{ownHolds, following}
 
 module _ (h g : List ℕ) where
   pub length-marks-of : length (marksOf h g) ≡ linesIn h
@@ -82,27 +76,27 @@ module _ (h g : List ℕ) where
         (sym (tally-pick bad (marksOf h g) (textsOf h) (length-marks (textsOf h) (copiesOf g)))
         ∙ ap length (matched .copies) ∙ length-map (answersOf g) _ ∙ length-chop _ (answersIn g) _)
 
-    -- in the sender's copy no other actor holds a PAN
-    pub taken-free : (copy : List ℕ) → ownHolds copy h ≡ true → Each (λ l. heldByAnother (panOf l) (sender h) (records copy) ≡ false) (takenBy h g)
-    unfolding ownHolds
-    taken-free copy o = each-map (λ l e. own-free (sender h) (panOf l) (each-passes (ofActor (sender h)) (records copy) o)) (matched .records)
-
     -- each keeps the rules of a record
     pub taken-kept : Each (λ l. recordHolds l ≡ true) (takenBy h g)
     taken-kept = matched .records
 
+    pub taken-apart : distinct (map panOf (takenBy h g)) ≡ true
+    taken-apart = matched .apart
+
     pub taken-made : Each (Makes (recordOf (receptionOf g))) (takenBy h g)
     taken-made = each-map (λ l k. record-makes (receptionOf g) received-held l k) taken-kept
 
-    -- the number of records that follow, as it is reckoned
-    pub following-used : (mode : ℕ) (copy : List ℕ) → usedAfter mode (sender h) (records copy) (takenBy h g) ≡ length (following mode copy h g)
-    unfolding following
-    following-used mode copy =
-        used-after (recordOf (receptionOf g)) mode (sender h) (records copy) (takenBy h g) (each-map (λ l m. m .pan) taken-made) (matched .apart)
+-- as the code learns it: r says whether the HGC holds, and ms are its marks
+module _ (h g : List ℕ) (r : Bool) (er : r ≡ receiptHolds h g) (k : not r ≡ false) where
+  pub holds : receiptHolds h g ≡ true
+  holds = sym er ∙ not-false r k
 
-    -- the taken lines can be applied to the sender's copy
-    pub taken-fit : (mode : ℕ) (copy : List ℕ) → ownHolds copy h ≡ true → length (following mode copy h g) ≤ slotsIn copy
-        → Fit mode (sender h) (recordOf (receptionOf g)) (slotsIn copy) (records copy) (takenBy h g)
-    unfolding following
-    taken-fit mode copy o m =
-        record { made = taken-made; apart = matched .apart; free = taken-free copy o; room = m }
+  module _ (ms : List ℕ) (em : ms ≡ paired (textsOf h) (copiesOf g)) where
+    pub marks-fit : ms ≡ marksOf h g
+    marks-fit = marks-are h g holds ms em
+
+    pub marks-each : length ms ≡ linesIn h
+    marks-each = ap length marks-fit ∙ length-marks-of h g
+
+    pub tell-fits : (each reasonHolds (answersOf g) ≡ true) × (tally bad ms ≤ answersIn g)
+    tell-fits = (reasons-held h g holds, omega (arith, left-count h g holds ms marks-fit))

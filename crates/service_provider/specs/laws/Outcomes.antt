@@ -3,7 +3,8 @@
 use mathlib.Core.Path.{_≡_}
 use mathlib.Core.List.{List}
 use Prim.Native.Nat.{ℕ}
-use Rattle.provider.specs.laws.Outcomes.{read-back-one, update-one}
+use Rattle.reading.specs.laws.Outcomes.{read-back-one}
+use Rattle.updating.specs.laws.Outcomes.{update-one}
 use Rattle.service_provider.specs.Promises.{countedAs, GraftspindleReadBack, GraftspindleUpdate}
 
 module _ (h g block : List ℕ) (n n′ t t′ r r′ : ℕ) (v v′ : List ℕ) where

@@ -1,0 +1,3 @@
+pub mod ReadBack
+pub mod Promises
+pub mod laws

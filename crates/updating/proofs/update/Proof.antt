@@ -1,0 +1,55 @@
+-- Assumes nothing.
+use Rattle.updating.specs.Promises.{Update}
+use lib.Seq.{length-take-le}
+use Rattle.applying.specs.laws.Sought.{no-places}
+use Rattle.updating.specs.laws.Numbers.{update-copy, update-refused, copy-stays}
+use Rattle.updating.proofs.Steps.{copy-most}
+use mathlib.Core.Path.{sym, _∙_}
+use native.Mathlib.Omega.{arith}
+use borrow.Author.Needs.{needs}
+use Rattle.updating.proofs.update.Statement.{statement}
+use Rattle.updating.proofs.update.Tie as tie
+
+returns : tie.Need-returns
+unfolding Update
+returns c =
+    let k = c .before .if1 .taken in
+    let n = update-copy _ _ _ _ _ (c .before .before .copy-stop .ensures) k in
+    (c .refused .ensures ∙ update-refused _ _ _ _ _ n k, copy-stays _ _ _ _ _ n k)
+
+array-borrow-prefix-marks : tie.Need-array-borrow-prefix-marks
+array-borrow-prefix-marks c = copy-most _ _ _ _ (c .before .before .before .copy-stop .ensures) (c .before .before .if1 .left) _ (c .before .lines-in .ensures)
+
+slice-aggregate-update-lines : tie.Need-slice-aggregate-update-lines
+slice-aggregate-update-lines c = sym (length-take-le _ _ (omega (arith, copy-most _ _ _ _ (c .before .before .before .before .copy-stop .ensures) (c .before .before .before .if1 .left) _ (c .before .before .lines-in .ensures))))
+
+array-borrow-prefix-found : tie.Need-array-borrow-prefix-found
+array-borrow-prefix-found c = copy-most _ _ _ _ (c .before .before .before .before .copy-stop .ensures) (c .before .before .before .if1 .left) _ (c .before .before .lines-in .ensures)
+
+slice-aggregate-update-lines-2 : tie.Need-slice-aggregate-update-lines-2
+slice-aggregate-update-lines-2 c = sym (length-take-le _ _ (omega (arith, copy-most _ _ _ _ (c .before .before .before .before .before .copy-stop .ensures) (c .before .before .before .before .if1 .left) _ (c .before .before .before .lines-in .ensures))))
+
+update-lines-requires : tie.Need-update-lines-requires
+update-lines-requires c κs =
+    let n = c .before .before .before .lines-in .ensures in
+    let form = c .before .before .before .before .before .copy-stop .ensures in
+    let left = c .before .before .before .before .if1 .left in
+    let m = copy-most _ _ _ _ form left _ n in
+    (sym form ∙ left, (length-take-le _ _ (omega (arith, m)) ∙ n, (length-take-le _ _ (omega (arith, m)) ∙ n, no-places _ m)))
+
+pub update-spec : {M : Type 1} → statement M
+update-spec =
+    tie.close
+    (tie.spec
+    (λ c κs. search needs)
+    (λ c κs. search needs)
+    (λ c. search needs)
+    returns
+    (λ c κs. search needs)
+    array-borrow-prefix-marks
+    slice-aggregate-update-lines
+    array-borrow-prefix-found
+    slice-aggregate-update-lines-2
+    update-lines-requires
+    (λ c. search needs)
+    (λ c. search needs))

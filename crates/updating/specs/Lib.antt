@@ -1,0 +1,3 @@
+pub mod Update
+pub mod Promises
+pub mod laws

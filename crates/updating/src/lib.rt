@@ -1,0 +1,77 @@
+// The update of a provider's copy of the records held for him, by an import of his.
+ghost use mathlib.Core.Path.{_≡_};
+ghost use lib.ListN.{length};
+ghost use Rattle.theory.specs.First.{first};
+ghost use Rattle.hgv.specs.Layout.{linesIn};
+ghost use Rattle.applying.specs.laws.Sought.{NoPlaces};
+ghost use Rattle.updating.specs.Update.{ownHolds, copyStops};
+ghost use Rattle.updating.specs.Promises.{Update};
+
+// Is every record in the copy the sender's.
+fn is_own(copy: &[u8], hgv: &[u8]) -> bool
+    ensures { λ r. ⌜ r ≡ ownHolds (now (copy .entry)) (now (hgv .entry)) ⌝ }
+{
+    let held = slots::used_part(copy);
+    slots::count_of(held, header::sender(hgv)) == held.len() / sizes::SLOT
+}
+
+// The stops that look at the mode, the copy and the HGV.
+fn copy_stop(mode: u64, copy: &[u8], hgv: &[u8]) -> u64
+    ensures { λ r. ⌜ r ≡ first (copyStops mode (now (copy .entry)) (now (hgv .entry))) ⌝ }
+{
+    let s32 = rules::first(!frames::has_frames(hgv), 32, 0);
+    let s31 = rules::first(!frames::has_footer(hgv), 31, s32);
+    let s30 = rules::first(!claims::has_count(hgv), 30, s31);
+    let s51 = rules::first(!is_own(copy, hgv), 51, s30);
+    let s29 = rules::first(!claims::has_receiver(hgv), 29, s51);
+    let s28 = rules::first(stops::is_not_full(mode, hgv), 28, s29);
+    let s27 = rules::first(!claims::has_version(hgv), 27, s28);
+    let s26 = rules::first(!header::has_header(hgv), 26, s27);
+    let s25 = rules::first(!hgv::has_length(hgv), 25, s26);
+    let s23 = rules::first(!register::in_order(copy), 23, s25);
+    rules::first(!stops::is_mode(mode), 21, s23)
+}
+
+// The update by an HGV whose form is right; `marks` has a byte for each of its lines, and `found` a place that is none.
+fn update_lines(
+    mode: u64,
+    copy: &mut [u8],
+    hgv: &[u8],
+    hgc: &[u8],
+    marks: &mut [u8],
+    found: &mut [u16],
+) -> provider::Counted
+    requires clear { ⌜ first (copyStops mode (now copy) (now hgv)) ≡ 0 ⌝ }
+    requires each { ⌜ length (now marks) ≡ linesIn (now hgv) ⌝ }
+    requires many { ⌜ length (now found) ≡ linesIn (now hgv) ⌝ }
+    requires none { ⌜ NoPlaces (now found) ⌝ }
+    ensures { λ r. ⌜ Update mode (now (copy .entry)) (now (hgv .entry)) (now (hgc .entry)) r (now (copy .exit)) ⌝ }
+{
+    if !provider::is_receipt(hgv, hgc, marks) {
+        return provider::refused(52);
+    }
+    let sender = header::sender(hgv);
+    let lines = hgv::body(hgv);
+    let width = hgv::width(hgv);
+    let used = holdings::used_after(mode, copy, sender, lines, width, marks, found);
+    if copy.len() / sizes::SLOT < used {
+        return provider::refused(33);
+    }
+    let reception = receipts::reception(hgc);
+    applying::apply(mode, copy, sender, reception, lines, width, marks, found);
+    provider::count(hgv, hgc, marks)
+}
+
+// The update of a provider's copy by an import of his: 0 or a stop, and how many lines were taken and rejected.
+pub fn update(mode: u64, copy: &mut [u8], hgv: &[u8], hgc: &[u8]) -> provider::Counted
+    ensures { λ r. ⌜ Update mode (now (copy .entry)) (now (hgv .entry)) (now (hgc .entry)) r (now (copy .exit)) ⌝ }
+{
+    let stop = copy_stop(mode, copy, hgv);
+    if stop != 0 {
+        return provider::refused(stop);
+    }
+    let mut marks = [0u8; sizes::LINES_MOST];
+    let mut found = [sizes::NO_PLACE; sizes::LINES_MOST];
+    let n = hgv::lines_in(hgv);
+    update_lines(mode, copy, hgv, hgc, &mut marks[..n], &mut found[..n])
+}
