@@ -2,7 +2,7 @@
 -- Assumes nothing.
 use Prim.Native.Nat.{ℕ}
 use mathlib.Core.Bool.{Bool, not, _&&_, _||_}
-use mathlib.Core.List.{List, [], _∷_}
+use mathlib.Core.List.{List, [], _∷_, _++_}
 use lib.Dec.{eqb}
 use Rattle.theory.specs.First.{Rule, _if_, first}
 use Rattle.times.specs.Time.{realTime}
@@ -12,11 +12,12 @@ use Rattle.frames.specs.Frames.{footerHolds, framesHold}
 use Rattle.header.specs.Header.{sender, headerHolds}
 use Rattle.claims.specs.Claims.{versionHolds, incrementalOnly, receiverHolds, countHolds}
 use Rattle.register.specs.Register.{inOrder}
+use Rattle.sizes.specs.Sizes.{incremental}
 use Rattle.sizes.specs.Modes.{isFull}
 
 -- 1 or 2
 unfoldable pub modeHolds : ℕ → Bool
-modeHolds mode = eqb mode 1 || isFull mode
+modeHolds mode = eqb mode incremental || isFull mode
 
 -- 28: mode 2 with 220001
 unfoldable pub notFull : ℕ → List ℕ → Bool
@@ -26,13 +27,19 @@ notFull mode h = isFull mode && incrementalOnly h
 unfoldable pub addressed : List ℕ → List ℕ → Bool
 addressed b h = receiverHolds h && known b (sender h)
 
-unfoldable pub formStops : ℕ → List ℕ → List ℕ → List ℕ → List ℕ → List Rule
-formStops mode reception register b h =
+-- 21 to 24: what is handed over beside the file
+unfoldable pub callStops : ℕ → List ℕ → List ℕ → List ℕ → List Rule
+callStops mode reception register b =
     (21 if not (modeHolds mode))
     ∷ (22 if not (realTime reception))
     ∷ (23 if not (inOrder register))
     ∷ (24 if not (rowsHold b))
-    ∷ (25 if not (lengthHolds h))
+    ∷ []
+
+-- 25 to 32: the file
+unfoldable pub fileStops : ℕ → List ℕ → List ℕ → List Rule
+fileStops mode b h =
+    (25 if not (lengthHolds h))
     ∷ (26 if not (headerHolds h))
     ∷ (27 if not (versionHolds h))
     ∷ (28 if notFull mode h)
@@ -41,6 +48,9 @@ formStops mode reception register b h =
     ∷ (31 if not (footerHolds h))
     ∷ (32 if not (framesHold h))
     ∷ []
+
+unfoldable pub formStops : ℕ → List ℕ → List ℕ → List ℕ → List ℕ → List Rule
+formStops mode reception register b h = callStops mode reception register b ++ fileStops mode b h
 
 -- the first that holds, 0 where none does
 unfoldable pub formStop : ℕ → List ℕ → List ℕ → List ℕ → List ℕ → ℕ

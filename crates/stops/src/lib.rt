@@ -1,22 +1,19 @@
 // The stops of an import that look at what was handed over, before any line is judged.
 ghost use mathlib.Core.Path.{_≡_};
-ghost use Rattle.stops.specs.Stops.{addressed};
+ghost use Rattle.theory.specs.First.{first};
+ghost use Rattle.stops.specs.Stops.{addressed, callStops, fileStops};
 ghost use Rattle.stops.specs.Promises.{IsMode, IsNotFull, FormStop};
-
-const INCREMENTAL: u64 = 1;
-
-const FULL: u64 = 2;
 
 pub fn is_mode(mode: u64) -> bool
     ensures { λ r. ⌜ IsMode mode r ⌝ }
 {
-    (mode == INCREMENTAL) | (mode == FULL)
+    (mode == sizes::INCREMENTAL) | (mode == sizes::FULL)
 }
 
 pub fn is_not_full(mode: u64, hgv: &[u8]) -> bool
     ensures { λ r. ⌜ IsNotFull mode (now (hgv .entry)) r ⌝ }
 {
-    (mode == FULL) & claims::is_incremental_only(hgv)
+    (mode == sizes::FULL) & claims::is_incremental_only(hgv)
 }
 
 fn is_addressed(rows: &[u8], hgv: &[u8]) -> bool
@@ -26,9 +23,19 @@ fn is_addressed(rows: &[u8], hgv: &[u8]) -> bool
     claims::has_receiver(hgv) & issuers::is_known(rows, sender)
 }
 
-// The first of the stops 21 to 32 that holds, or 0: from the last to the first, so that the first stands.
-pub fn form_stop(mode: u64, reception: &[u8], register: &[u8], rows: &[u8], hgv: &[u8]) -> u64
-    ensures { λ r. ⌜ FormStop mode (now (reception .entry)) (now (register .entry)) (now (rows .entry)) (now (hgv .entry)) r ⌝ }
+// The first of the stops 21 to 24 that holds, or 0: from the last to the first, so that the first stands.
+fn call_stop(mode: u64, reception: &[u8], register: &[u8], rows: &[u8]) -> u64
+    ensures { λ r. ⌜ r ≡ first (callStops mode (now (reception .entry)) (now (register .entry)) (now (rows .entry))) ⌝ }
+{
+    let s24 = rules::first(!issuers::are_rows(rows), 24, 0);
+    let s23 = rules::first(!register::in_order(register), 23, s24);
+    let s22 = rules::first(!times::is_real_time(reception), 22, s23);
+    rules::first(!is_mode(mode), 21, s22)
+}
+
+// The same of the stops 25 to 32.
+fn file_stop(mode: u64, rows: &[u8], hgv: &[u8]) -> u64
+    ensures { λ r. ⌜ r ≡ first (fileStops mode (now (rows .entry)) (now (hgv .entry))) ⌝ }
 {
     let s32 = rules::first(!frames::has_frames(hgv), 32, 0);
     let s31 = rules::first(!frames::has_footer(hgv), 31, s32);
@@ -37,9 +44,16 @@ pub fn form_stop(mode: u64, reception: &[u8], register: &[u8], rows: &[u8], hgv:
     let s28 = rules::first(is_not_full(mode, hgv), 28, s29);
     let s27 = rules::first(!claims::has_version(hgv), 27, s28);
     let s26 = rules::first(!header::has_header(hgv), 26, s27);
-    let s25 = rules::first(!hgv::has_length(hgv), 25, s26);
-    let s24 = rules::first(!issuers::are_rows(rows), 24, s25);
-    let s23 = rules::first(!register::in_order(register), 23, s24);
-    let s22 = rules::first(!times::is_real_time(reception), 22, s23);
-    rules::first(!is_mode(mode), 21, s22)
+    rules::first(!hgv::has_length(hgv), 25, s26)
+}
+
+// The first of the stops 21 to 32 that holds, or 0.
+pub fn form_stop(mode: u64, reception: &[u8], register: &[u8], rows: &[u8], hgv: &[u8]) -> u64
+    ensures { λ r. ⌜ FormStop mode (now (reception .entry)) (now (register .entry)) (now (rows .entry)) (now (hgv .entry)) r ⌝ }
+{
+    let stop = call_stop(mode, reception, register, rows);
+    if stop != 0 {
+        return stop;
+    }
+    file_stop(mode, rows, hgv)
 }

@@ -46,7 +46,7 @@ use Rattle.verdicts.specs.laws.Verdict.{rejected}
 use Rattle.holdings.specs.Holdings.{storedOn, stored, storedAll, others, replacedAll, holdings}
 use Rattle.sizes.specs.Modes.{isFull}
 use Rattle.holdings.specs.Room.{usedAfter}
-use Rattle.stops.specs.Stops.{modeHolds, notFull, addressed, formStops, formStop}
+use Rattle.stops.specs.Stops.{modeHolds, notFull, addressed, callStops, fileStops, formStops, formStop}
 use Rattle.theory.specs.Stopped.{unlessStopped}
 use Rattle.importer.specs.Import.{judged, following, confirmed, roomStops, stops, numberOf, refusal, success, registerAfter, hgcAfter, answer as answered, written, told}
 use Rattle.importer.specs.declared.Imported.{Imported}
@@ -200,5 +200,5 @@ pub record Late : Type 0 where
 -- ---- computed, by every definition that the contracts reach
 
 pub computed : Single × (Six × Late)
-unfolding takenNext earlier bump distinct all run leading choose first flat onto free pad frontOn front chop good bad pick eqs mem scan tally each some field listed filledTo filled numberAfter number decimal pan doubled addend luhnSum luhn allowed plate nationality separated separator rowHolds rowsHold sentBy rowBegins rowFits known someRowBegins someRowFits daysIn realTime realDate tariffHolds classHolds emissionHolds productHolds engineHolds validToHolds separatorHolds fieldsHold vehicleHolds weightHolds L10 endOf recordOf L1 L2 L3 L4 L5 L6 L7 stateless L8 L9 lineRules recordHolds starred slotsOf marked usedForm freeForm records usedPart inOrder holdsPan placeOf ofActor holdsForeign heldByAnother countOf widthOf linesIn lengthHolds body linesOf footer footerForm footerHolds framed framesHold sequence previousHolds headerHolds versionHolds incrementalOnly receiverHolds countHolds zeros outcome names counts head answer said answers foot confirmation ownRules verdictRules verdict verdictsOf fileVerdicts taken rejected storedOn stored storedAll others replacedAll isFull holdings usedAfter modeHolds notFull addressed formStops formStop judged following confirmed roomStops stops numberOf unlessStopped refusal success registerAfter hgcAfter written told answered empty sift isTaken marksFrom marks left answersIn behindHead answersOf lengthForm headForm answerForm formHolds namesHold outcomeHolds reasonHolds textsOf copiesOf marksOf takenBy sameTexts copiesHold countsHold lineHolds takenHold saysHold linesHold receiptHolds turnedDown told-counts ownHolds copyStops copied copyRoom updateNumber updateAnswer updated copyAfter count copyBy answersBy
+unfolding takenNext earlier bump distinct all run leading choose first flat onto free pad frontOn front chop good bad pick eqs mem scan tally each some field listed filledTo filled numberAfter number decimal pan doubled addend luhnSum luhn allowed plate nationality separated separator rowHolds rowsHold sentBy rowBegins rowFits known someRowBegins someRowFits daysIn realTime realDate tariffHolds classHolds emissionHolds productHolds engineHolds validToHolds separatorHolds fieldsHold vehicleHolds weightHolds L10 endOf recordOf L1 L2 L3 L4 L5 L6 L7 stateless L8 L9 lineRules recordHolds starred slotsOf marked usedForm freeForm records usedPart inOrder holdsPan placeOf ofActor holdsForeign heldByAnother countOf widthOf linesIn lengthHolds body linesOf footer footerForm footerHolds framed framesHold sequence previousHolds headerHolds versionHolds incrementalOnly receiverHolds countHolds zeros outcome names counts head answer said answers foot confirmation ownRules verdictRules verdict verdictsOf fileVerdicts taken rejected storedOn stored storedAll others replacedAll isFull holdings usedAfter modeHolds notFull addressed callStops fileStops formStops formStop judged following confirmed roomStops stops numberOf unlessStopped refusal success registerAfter hgcAfter written told answered empty sift isTaken marksFrom marks left answersIn behindHead answersOf lengthForm headForm answerForm formHolds namesHold outcomeHolds reasonHolds textsOf copiesOf marksOf takenBy sameTexts copiesHold countsHold lineHolds takenHold saysHold linesHold receiptHolds turnedDown told-counts ownHolds copyStops copied copyRoom updateNumber updateAnswer updated copyAfter count copyBy answersBy
 computed = (record { good-answer = refl; good-register = refl; empty-answer = refl; empty-hgc = refl; bad-answer = refl; bad-hgc = refl; different = refl; first-register = refl; both-register = refl; both-different = refl; ended-register = refl; ended-hgc = refl }, (record { answer₁ = refl; after₁ = refl; hgc-is₁ = refl; answer₂ = refl; after₂ = refl; hgc-is₂ = refl; answer₃ = refl; after₃ = refl; answer₄ = refl; after₄ = refl; hgc-is₄ = refl; answer₅ = refl; after₅ = refl; hgc-is₅ = refl; answer₆ = refl; after₆ = refl }, record { copy-is = refl; answers-are = refl; their-copy = refl; their-answers = refl }))

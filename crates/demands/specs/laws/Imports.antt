@@ -5,7 +5,7 @@ use Prim.Native.Nat.{ℕ}
 use Rattle.theory.specs.First.{Decided}
 use Rattle.theory.specs.laws.First.{decided, numbered}
 use Rattle.theory.specs.laws.Stopped.{number-kept}
-use Rattle.stops.specs.Stops.{formStops}
+use Rattle.stops.specs.Stops.{callStops, fileStops, formStops}
 use Rattle.importer.specs.declared.Imported.{Imported}
 use Rattle.importer.specs.Import.{roomStops, stops, numberOf, refusal, success, written, told, answer}
 use Rattle.importer.specs.Promises.{Import}
@@ -22,7 +22,7 @@ module _ (f : Handed) (register : List ℕ) (r : Imported) (b g : List ℕ) (o :
 
   -- and where it is 0 none does
   pub number-decided : Decided (stops (f .mode) (f .reception) register (f .rows) (f .hgv) (f .hgc)) (r .number)
-  unfolding numberOf stops formStops roomStops numbered
+  unfolding numberOf stops formStops callStops fileStops roomStops numbered
   number-decided = decided (stops (f .mode) (f .reception) register (f .rows) (f .hgv) (f .hgc)) refl (r .number) number-is
 
   -- ---- a stop

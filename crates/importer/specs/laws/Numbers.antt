@@ -10,7 +10,7 @@ use Rattle.theory.specs.First.{None, none, more, first}
 use Rattle.theory.specs.laws.First.{first-clear, numbered}
 use Rattle.theory.specs.laws.Stopped.{at-stop, at-success, by-first, by-second, by-neither}
 use Rattle.slots.specs.Slots.{slotsIn}
-use Rattle.stops.specs.Stops.{formStops, formStop}
+use Rattle.stops.specs.Stops.{callStops, fileStops, formStops, formStop}
 use Rattle.stops.specs.laws.Clear.{Clear, clear, clear-none}
 use Rattle.importer.specs.Import.{following, confirmed, roomStops, stops, numberOf, refusal, success, written, told, answer, registerAfter, hgcAfter}
 
@@ -20,7 +20,7 @@ module _ (mode : ℕ) (reception register rows h hgc : List ℕ) where
 
   -- every stop of form has a number
   forms : numbered (formStops mode reception register rows h) ≡ true
-  unfolding formStops numbered
+  unfolding formStops callStops fileStops numbered
   forms = refl
 
   pub number-form : (n : ℕ) → n ≡ formStop mode reception register rows h → (n ≡ 0 → ⊥) → n ≡ number

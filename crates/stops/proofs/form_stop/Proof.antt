@@ -1,55 +1,14 @@
--- One stop after the other. Assumes nothing.
-use mathlib.Core.Path.{refl, ap}
-use mathlib.Core.Bool.{not}
-use Rattle.theory.specs.First.{first}
-use Rattle.theory.specs.laws.First.{chosen}
-use Rattle.stops.specs.Stops.{formStops, formStop}
+-- Those of the file stand behind those of the call. Assumes nothing.
+use Rattle.stops.proofs.Laws.{stop-first, stop-behind}
 use borrow.Author.Needs.{needs}
 use Rattle.stops.proofs.form_stop.Statement.{statement}
 use Rattle.stops.proofs.form_stop.Tie as tie
 
 returns : tie.Need-returns
-unfolding formStop formStops first
-returns c =
-    chosen _ _ _ _ _ _ (c .first12 .ensures) (ap not (c .before .is-mode .ensures)) (
-    chosen _ _ _ _ _ _ (c .before .before .first11 .ensures) (ap not (c .before .before .before .is-real-time .ensures)) (
-    chosen _ _ _ _ _ _ (c .before .before .before .before .first10 .ensures) (ap not (c .before .before .before .before .before .in-order .ensures)) (
-    chosen _ _ _ _ _ _ (c .before .before .before .before .before .before .first9 .ensures) (ap not (c .before .before .before .before .before .before .before .are-rows .ensures)) (
-    chosen _ _ _ _ _ _ (c .before .before .before .before .before .before .before .before .first8 .ensures) (ap not (c .before .before .before .before .before .before .before .before .before .has-length .ensures)) (
-    chosen _ _ _ _ _ _ (c .before .before .before .before .before .before .before .before .before .before .first7 .ensures) (ap not (c .before .before .before .before .before .before .before .before .before .before .before .has-header .ensures)) (
-    chosen _ _ _ _ _ _ (c .before .before .before .before .before .before .before .before .before .before .before .before .first6 .ensures) (ap not (c .before .before .before .before .before .before .before .before .before .before .before .before .before .has-version .ensures)) (
-    chosen _ _ _ _ _ _ (c .before .before .before .before .before .before .before .before .before .before .before .before .before .before .first5 .ensures) (c .before .before .before .before .before .before .before .before .before .before .before .before .before .before .before .is-not-full .ensures) (
-    chosen _ _ _ _ _ _ (c .before .before .before .before .before .before .before .before .before .before .before .before .before .before .before .before .first4 .ensures) (ap not (c .before .before .before .before .before .before .before .before .before .before .before .before .before .before .before .before .before .is-addressed .ensures)) (
-    chosen _ _ _ _ _ _ (c .before .before .before .before .before .before .before .before .before .before .before .before .before .before .before .before .before .before .first3 .ensures) (ap not (c .before .before .before .before .before .before .before .before .before .before .before .before .before .before .before .before .before .before .before .has-count .ensures)) (
-    chosen _ _ _ _ _ _ (c .before .before .before .before .before .before .before .before .before .before .before .before .before .before .before .before .before .before .before .before .first2 .ensures) (ap not (c .before .before .before .before .before .before .before .before .before .before .before .before .before .before .before .before .before .before .before .before .before .has-footer .ensures)) (
-    chosen _ _ _ _ _ _ (c .before .before .before .before .before .before .before .before .before .before .before .before .before .before .before .before .before .before .before .before .before .before .first .ensures) (ap not (c .before .before .before .before .before .before .before .before .before .before .before .before .before .before .before .before .before .before .before .before .before .before .before .has-frames .ensures)) refl)))))))))))
+returns c = stop-first _ _ _ _ _ _ (c .before .call-stop .ensures) (c .if1 .taken)
+
+returns-2 : tie.Need-returns-2
+returns-2 c = stop-behind _ _ _ _ _ _ (c .before .before .call-stop .ensures) (c .before .if1 .left) _ (c .file-stop .ensures)
 
 pub form-stop-spec : {M : Type 1} → statement M
-form-stop-spec =
-    tie.close
-    (tie.spec
-    (λ c κs. search needs)
-    (λ c κs. search needs)
-    (λ c κs. search needs)
-    (λ c κs. search needs)
-    (λ c κs. search needs)
-    (λ c κs. search needs)
-    (λ c κs. search needs)
-    (λ c κs. search needs)
-    (λ c κs. search needs)
-    (λ c κs. search needs)
-    (λ c κs. search needs)
-    (λ c κs. search needs)
-    (λ c κs. search needs)
-    (λ c κs. search needs)
-    (λ c κs. search needs)
-    (λ c κs. search needs)
-    (λ c κs. search needs)
-    (λ c κs. search needs)
-    (λ c κs. search needs)
-    (λ c κs. search needs)
-    (λ c κs. search needs)
-    (λ c κs. search needs)
-    (λ c κs. search needs)
-    (λ c κs. search needs)
-    returns)
+form-stop-spec = tie.close (tie.spec (λ c κs. search needs) returns (λ c κs. search needs) returns-2)

@@ -13,7 +13,7 @@ use Rattle.frames.specs.Frames.{footerHolds, framesHold}
 use Rattle.header.specs.Header.{headerHolds}
 use Rattle.claims.specs.Claims.{versionHolds, countHolds}
 use Rattle.register.specs.Register.{inOrder}
-use Rattle.stops.specs.Stops.{modeHolds, notFull, addressed, formStops, formStop}
+use Rattle.stops.specs.Stops.{modeHolds, notFull, addressed, callStops, fileStops, formStops, formStop}
 
 pub record Clear (mode : ℕ) (reception register b h : List ℕ) : Type 0 where
   pub moded : modeHolds mode ≡ true
@@ -31,7 +31,7 @@ pub record Clear (mode : ℕ) (reception register b h : List ℕ) : Type 0 where
 
 module _ (mode : ℕ) (reception register b h : List ℕ) where
   pub clear : formStop mode reception register b h ≡ 0 → Clear mode reception register b h
-  unfolding formStop formStops numbered
+  unfolding formStop formStops callStops fileStops numbered
   clear e = go (first-clear (formStops mode reception register b h) refl e)
     where
       go : None (formStops mode reception register b h) → Clear mode reception register b h
@@ -53,6 +53,6 @@ module _ (mode : ℕ) (reception register b h : List ℕ) where
 
   -- and only then
   pub clear-none : Clear mode reception register b h → formStop mode reception register b h ≡ 0
-  unfolding formStop formStops first choose
+  unfolding formStop formStops callStops fileStops first choose
   clear-none c =
       rw (c .moded, c .received, c .ordered, c .rowed, c .sized, c .headed, c .versioned, c .fitting, c .sent, c .counted, c .footed, c .framed)
