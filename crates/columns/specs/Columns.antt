@@ -1,11 +1,11 @@
 -- The columns of a body line, by their positions in the document's table. Assumes nothing.
 use mathlib.Core.List.{List}
-use Prim.Native.Nat.{ℕ}
+use Prim.Native.Nat.{ℕ, _-_}
 use Rattle.texts.specs.Field.{field}
 
--- the text of a line: what stands between the register identifier and the end of the record
-abbrev pub text : List ℕ → List ℕ
-text l = field 2 127 l
+-- the text of a line of width w: what stands between the register identifier and the end of the record
+abbrev pub text : ℕ → List ℕ → List ℕ
+text w l = field 2 (w - 1) l
 
 abbrev pub actor : List ℕ → List ℕ
 actor l = field 2 7 l

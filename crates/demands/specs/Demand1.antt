@@ -11,17 +11,18 @@ use Rattle.importer.specs.declared.Imported.{Imported}
 use Rattle.importer.specs.Import.{stops}
 use Rattle.importer.specs.Promises.{Import}
 use Rattle.provider.specs.declared.Counted.{Counted}
-use Rattle.reading.specs.ReadBack.{fileStops, blockStops}
-use Rattle.updating.specs.Update.{copyStops, roomStops}
+use Rattle.reading.specs.ReadBack.{hgvStops, blockStops}
+use Rattle.updating.specs.Sent.{Sent}
+use Rattle.updating.specs.Update.{copyStops, receiptStops}
 use Rattle.reading.specs.Promises.{ReadBack}
 use Rattle.updating.specs.Promises.{Update}
-use Rattle.demands.specs.History.{Handed, Imports}
+use Rattle.importer.specs.Handed.{Handed}
 use Rattle.demands.specs.laws.Imports as imports
 use Rattle.demands.specs.laws.Answered as answered
 
 -- "The import, the lookups and the provider's update take every file, table, register and buffer, of every length, and end."
 -- The entry points have no `requires`, and a function is proved only if it ends: so whatever is handed over there is an outcome,
-pub import-ends : (f : Handed) (register : List ℕ) → (r : Imported) × (b : List ℕ) × (g : List ℕ) × Imports f register r b g
+pub import-ends : (f : Handed) (register : List ℕ) → (r : Imported) × (b : List ℕ) × (g : List ℕ) × Import f register r b g
 unfolding Import
 import-ends f register = (_, _, _, (refl, (refl, refl)))
 
@@ -35,17 +36,17 @@ pub read-back-ends : (hgv hgc block : List ℕ) → (r : Counted) × (v : List �
 unfolding ReadBack
 read-back-ends hgv hgc block = (_, _, (refl, refl))
 
-pub update-ends : (mode : ℕ) (copy hgv hgc : List ℕ) → (r : Counted) × (c : List ℕ) × Update mode copy hgv hgc r c
+pub update-ends : (s : Sent) (copy : List ℕ) → (r : Counted) × (c : List ℕ) × Update s copy r c
 unfolding Update
-update-ends mode copy hgv hgc = (_, _, (refl, refl))
+update-ends s copy = (_, _, (refl, refl))
 
 -- and only one: `import-one`, `by-pan-one`, `by-plate-one`, `read-back-one` and `update-one`, each about the name that the contract
 -- cites, stand among the laws of the crates
 
 -- "What is bad is refused by its number in the definition, tested here and not by the caller."
 -- The number is that of a stop that holds where none in front of it does; it is 0 exactly where no stop holds
-pub import-decided : (f : Handed) (register : List ℕ) (r : Imported) (b g : List ℕ) → Imports f register r b g
-    → Decided (stops (f .mode) (f .reception) register (f .rows) (f .hgv) (f .hgc)) (r .number)
+pub import-decided : (f : Handed) (register : List ℕ) (r : Imported) (b g : List ℕ) → Import f register r b g
+    → Decided (stops f register) (r .number)
 import-decided f register r b g o = imports.number-decided f register r b g o
 
 pub by-pan-decided : (register key part : List ℕ) (number : ℕ) → ByPan register key part number → Decided (panRules register key) number
@@ -55,15 +56,14 @@ pub by-plate-decided : (register plate nationality time part : List ℕ) (number
     → Decided (plateRules register plate nationality time) number
 by-plate-decided register plate nationality time part number o = answered.plate-decided register plate nationality time part number o
 
-pub read-back-decided : (hgv hgc block : List ℕ) (r : Counted) (v : List ℕ) → ReadBack hgv hgc block r v → Decided (fileStops hgv ++ blockStops hgv hgc block) (r .number)
+pub read-back-decided : (hgv hgc block : List ℕ) (r : Counted) (v : List ℕ) → ReadBack hgv hgc block r v → Decided (hgvStops hgv ++ blockStops hgv hgc block) (r .number)
 read-back-decided hgv hgc block r v o = answered.read-decided hgv hgc block r v o
 
-pub update-decided : (mode : ℕ) (copy hgv hgc : List ℕ) (r : Counted) (c : List ℕ) → Update mode copy hgv hgc r c
-    → Decided (copyStops mode copy hgv ++ roomStops mode copy hgv hgc) (r .number)
-update-decided mode copy hgv hgc r c o = answered.update-decided mode copy hgv hgc r c o
+pub update-decided : (s : Sent) (copy : List ℕ) (r : Counted) (c : List ℕ) → Update s copy r c → Decided (copyStops (s .mode) copy (s .hgv) ++ receiptStops s copy) (r .number)
+update-decided s copy r c o = answered.update-decided s copy r c o
 
 -- "A refusal returns zero counts, and every lent byte stays."
-pub import-refusal : (f : Handed) (register : List ℕ) (r : Imported) (b g : List ℕ) → Imports f register r b g → (r .number ≡ 0 → ⊥)
+pub import-refusal : (f : Handed) (register : List ℕ) (r : Imported) (b g : List ℕ) → Import f register r b g → (r .number ≡ 0 → ⊥)
     → (r ≡ record { number = r .number; taken = 0; rejected = 0; length = 0 }) × ((b ≡ register) × (g ≡ f .hgc))
 import-refusal f register r b g o k = imports.refusal-is f register r b g o k
 
@@ -71,9 +71,9 @@ pub read-back-refusal : (hgv hgc block : List ℕ) (r : Counted) (v : List ℕ) 
     → (r ≡ record { number = r .number; taken = 0; rejected = 0 }) × (v ≡ block)
 read-back-refusal hgv hgc block r v o k = answered.read-refusal hgv hgc block r v o k
 
-pub update-refusal : (mode : ℕ) (copy hgv hgc : List ℕ) (r : Counted) (c : List ℕ) → Update mode copy hgv hgc r c → (r .number ≡ 0 → ⊥)
+pub update-refusal : (s : Sent) (copy : List ℕ) (r : Counted) (c : List ℕ) → Update s copy r c → (r .number ≡ 0 → ⊥)
     → (r ≡ record { number = r .number; taken = 0; rejected = 0 }) × (c ≡ copy)
-update-refusal mode copy hgv hgc r c o k = answered.update-refusal mode copy hgv hgc r c o k
+update-refusal s copy r c o k = answered.update-refusal s copy r c o k
 
 -- a lookup is lent its register to read only; its refusal hands nothing back
 pub by-pan-refusal : (register key part : List ℕ) (number : ℕ) → ByPan register key part number → (number ≡ 0 → ⊥) → part ≡ []

@@ -26,7 +26,8 @@ use Rattle.holdings.specs.Holdings.{others, holdings}
 use Rattle.importer.specs.declared.Imported.{Imported}
 use Rattle.provider.specs.declared.Counted.{Counted}
 use Rattle.reading.specs.Promises.{ReadBack}
-use Rattle.demands.specs.History.{Handed, Imports}
+use Rattle.importer.specs.Handed.{Handed}
+use Rattle.importer.specs.Promises.{Import}
 use Rattle.demands.specs.Verdicts.{takenBefore, Verdicts, Unbroken}
 use Rattle.demands.specs.laws.Judging.{verdicts-there, verdicts-only, unbroken, none-fits}
 use Rattle.demands.specs.laws.Exact as laws
@@ -51,7 +52,7 @@ module _ (rows from : List ℕ) (R ls : List (List ℕ)) where
     rejected-by k = first-fits (verdictRules rows from R (takenBefore ls vs i) (getD ls i [])) (getD vs i 0) (sym (v .first-that-fits i l)) k
 
 -- Of what was handed over the import answered r with the number 0, and left the register b and the buffer g
-module _ (f : Handed) (register : List ℕ) (r : Imported) (b g : List ℕ) (o : Imports f register r b g) (z : r .number ≡ 0) where
+module _ (f : Handed) (register : List ℕ) (r : Imported) (b g : List ℕ) (o : Import f register r b g) (z : r .number ≡ 0) where
   -- vs are the verdicts of the file's lines, beside the register as it was
   abbrev Judged : List ℕ → Type 0
   Judged vs = Verdicts (f .rows) (sender (f .hgv)) (records register) (linesOf (f .hgv)) vs

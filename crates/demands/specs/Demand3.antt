@@ -10,7 +10,9 @@ use Rattle.slots.specs.Slots.{records}
 use Rattle.importer.specs.declared.Imported.{Imported}
 use Rattle.provider.specs.declared.Counted.{Counted}
 use Rattle.demands.specs.Own.{own}
-use Rattle.demands.specs.History.{Handed, Imports, Entry, Event, his, entries, answers, empty, Ours, start, Replay, start}
+use Rattle.importer.specs.Handed.{Handed}
+use Rattle.importer.specs.Promises.{Import}
+use Rattle.demands.specs.History.{Entry, Event, his, entries, answers, empty, Ours, start, Replay, start}
 use Rattle.demands.specs.laws.Replays as laws
 
 -- "Both sides start empty with as many slots;"
@@ -19,7 +21,7 @@ both-start n m = (Ours.start m, Replay.start)
 
 -- "any providers import in any order, refused imports included."
 -- Whatever is handed over next, by whomever, and whatever outcome the contract of `import` admits: it is the next step of our side
-pub any-import : {n : ℕ} {register : List ℕ} {es : List Event} → Ours n register es → (f : Handed) (r : Imported) (b g : List ℕ) → Imports f register r b g
+pub any-import : {n : ℕ} {register : List ℕ} {es : List Event} → Ours n register es → (f : Handed) (r : Imported) (b g : List ℕ) → Import f register r b g
     → (vs : List Event) × Ours n b vs
 any-import = laws.goes-on
 

@@ -11,27 +11,11 @@ use Rattle.theory.specs.Keep.{sift}
 use Rattle.header.specs.Header.{sender}
 use Rattle.sizes.specs.Sizes.{slotLength, slotsMost}
 use Rattle.importer.specs.declared.Imported.{Imported}
+use Rattle.importer.specs.Handed.{Handed}
 use Rattle.importer.specs.Promises.{Import}
 use Rattle.provider.specs.declared.Counted.{Counted}
+use Rattle.updating.specs.Sent.{Sent, sent}
 use Rattle.updating.specs.Promises.{Update}
-
--- what is handed over at an import beside the register: the mode, the reception, the issuer rows, the HGV, the HGC's buffer
-pub record Handed : Type 0 where
-  pub mode : ℕ
-  pub reception : List ℕ
-  pub rows : List ℕ
-  pub hgv : List ℕ
-  pub hgc : List ℕ
-
--- of what was handed over the import answered r, and left the register b and the buffer g
-abbrev pub Imports : Handed → List ℕ → Imported → List ℕ → List ℕ → Type 0
-Imports f register r b g = Import (f .mode) (f .reception) register (f .rows) (f .hgv) (f .hgc) r b g
-
--- what a provider has of an accepted import of his: the mode, his HGV, and the HGC
-pub record Sent : Type 0 where
-  pub mode : ℕ
-  pub hgv : List ℕ
-  pub hgc : List ℕ
 
 -- what he has to do on his side
 pub data Entry : Type 0 where
@@ -47,7 +31,7 @@ pub record Event : Type 0 where
 unfoldable pub acceptance : Handed → Imported → List ℕ → Event
 acceptance f r g =
     record {
-      entry = apply (record { mode = f .mode; hgv = f .hgv; hgc = take (r .length) g });
+      entry = apply (sent (f .mode) (f .hgv) (take (r .length) g));
       counted = record { number = 0; taken = r .taken; rejected = r .rejected };
     }
 
@@ -80,10 +64,10 @@ pub data Ours (n : ℕ) : List ℕ → List Event → Type 0 where
   start : n ≤ slotsMost → Ours n (empty n) []
   -- a file was accepted
   accepted : {register : List ℕ} {es : List Event} → Ours n register es → (f : Handed) (r : Imported) (b g : List ℕ)
-      → Imports f register r b g → r .number ≡ 0 → Ours n b (es ▸ acceptance f r g)
+      → Import f register r b g → r .number ≡ 0 → Ours n b (es ▸ acceptance f r g)
   -- a file was refused
   refused : {register : List ℕ} {es : List Event} → Ours n register es → (f : Handed) (r : Imported) (b g : List ℕ)
-      → Imports f register r b g → (r .number ≡ 0 → ⊥) → Ours n b es
+      → Import f register r b g → (r .number ≡ 0 → ⊥) → Ours n b es
 
 -- his side: the copy after he did what he had to, once and in this order, and what his updates answered
 pub data Replay (n : ℕ) : List Entry → List ℕ → List Counted → Type 0 where
@@ -91,4 +75,4 @@ pub data Replay (n : ℕ) : List Entry → List ℕ → List Counted → Type 0 
   start : Replay n [] (empty n) []
   -- he applied what was sent
   applied : {es : List Entry} {copy : List ℕ} {us : List Counted} → Replay n es copy us → (s : Sent) (u : Counted) (c : List ℕ)
-      → Update (s .mode) copy (s .hgv) (s .hgc) u c → Replay n (es ▸ apply s) c (us ▸ u)
+      → Update s copy u c → Replay n (es ▸ apply s) c (us ▸ u)

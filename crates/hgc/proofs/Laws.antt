@@ -4,6 +4,7 @@ use mathlib.Core.Bool.{true}
 use mathlib.Core.List.{List, [], _++_, append-nil}
 use Prim.Native.Nat.{ℕ, zero, suc, _+_, _*_, _-_, _≤_, _<_}
 use native.Mathlib.Omega.{arith}
+use native.Mathlib.Nat.{mul-le-mul-right}
 use lib.ListN.{length, drop, getD, length-append}
 use Rattle.theory.specs.Text.{bytes}
 use Rattle.theory.specs.Keep.{onto}
@@ -20,11 +21,12 @@ use Rattle.writing.specs.laws.Laid.{Laid, laid, laid-start, laid-join, laid-nex
 use Rattle.numbers.specs.Number.{decimal}
 use Rattle.numbers.specs.laws.Number.{length-decimal}
 use Rattle.columns.specs.Columns.{text}
-use Rattle.hgv.specs.Layout.{linesIn, lengthHolds, body, linesOf}
-use Rattle.hgv.specs.laws.Layout.{width-is, lines-room, each-lined, length-least}
+use Rattle.hgv.specs.Layout.{widthOf, linesIn, lengthHolds, body, linesOf}
+use Rattle.hgv.specs.laws.Layout.{width-has, lines-room, each-line, length-least}
+use Rattle.sizes.specs.Sizes.{lineMost, linesMost, hgcHeaderLength}
 use Rattle.header.specs.Header.{sender, listSequence}
-use Rattle.hgc.specs.Confirmation.{confirmationLength, zeros, outcome, names, counts, head, answer, answers, foot, confirmation}
-use Rattle.hgc.specs.laws.Confirmation.{said, length-zeros, length-outcome, length-names, length-counts, length-answer, length-foot, answers-none, answers-most, answers-more, length-answers}
+use Rattle.hgc.specs.Confirmation.{answerLength, confirmationLength, zeros, outcome, names, counts, head, answer, answers, foot, confirmation}
+use Rattle.hgc.specs.laws.Confirmation.{said, Holding, length-zeros, length-outcome, length-names, length-counts, length-text, length-answer, length-foot, answers-none, answers-most, answers-more, length-answers}
 
 -- a field, as its reader has it
 pub wide : (from to : ℕ) (l f : List ℕ) → f ≡ field from to l → 1 ≤ from → to ≤ length l → length f ≡ to + 1 - from
@@ -68,17 +70,17 @@ counts-written taken rejected s₀ s₁ s₂ s₃ s₄ s₅ s₆ n e₁ e₂ e�
     let v₆ = laid-next 47 110 _ s₀ s₅ v₅ lineEnd s₆ 111 e₆ refl (omega arith) in
     v₆ .is
 
-pub answer-written : (from reason : ℕ) (l s₀ s₁ s₂ s₃ s₄ f : List ℕ) → 1 ≤ from → from - 1 + 130 ≤ length s₀ → 127 ≤ length l → f ≡ text l
-    → s₁ ≡ putField (from - 1 + 1) (bytes "1") s₀ → s₂ ≡ putField (from - 1 + 2) f s₁ → s₃ ≡ putField (from - 1 + 128) (decimal 2 reason) s₂ → s₄ ≡ putField (from - 1 + 130) lineEnd s₃
-    → s₄ ≡ putField from (answer reason l) s₀
+pub answer-written : (from w reason : ℕ) (l s₀ s₁ s₂ s₃ s₄ f : List ℕ) → 1 ≤ from → from - 1 + answerLength w ≤ length s₀ → Holding w l → f ≡ text w l
+    → s₁ ≡ putField (from - 1 + 1) (bytes "1") s₀ → s₂ ≡ putField (from - 1 + 2) f s₁ → s₃ ≡ putField (from - 1 + w) (decimal 2 reason) s₂ → s₄ ≡ putField (from - 1 + w + 2) lineEnd s₃
+    → s₄ ≡ putField from (answer w reason l) s₀
 unfolding answer
-answer-written from reason l s₀ s₁ s₂ s₃ s₄ f o n h ef e₁ e₂ e₃ e₄ =
+answer-written from w reason l s₀ s₁ s₂ s₃ s₄ f o n (h, k) ef e₁ e₂ e₃ e₄ =
     let p : from - 1 + 1 ≡ from = omega arith in
-    let nf : length f ≡ 126 = wide 2 127 l f ef (omega arith) h in
+    let nf : length f ≡ w - 2 = ap length ef ∙ length-text w l (h, k) in
     let v₁ = laid from (from - 1 + 2) (bytes "1") s₀ s₁ (e₁ ∙ rw p) (omega arith) o (omega arith) in
-    let v₂ = laid-next from (from - 1 + 2) _ s₀ s₁ v₁ f s₂ (from - 1 + 128) e₂ (omega arith) (omega arith) in
-    let v₃ = laid-next from (from - 1 + 128) _ s₀ s₂ v₂ (decimal 2 reason) s₃ (from - 1 + 130) e₃ (omega (arith, length-decimal 2 reason)) (omega arith) in
-    let v₄ = laid-next from (from - 1 + 130) _ s₀ s₃ v₃ lineEnd s₄ (from - 1 + 131) e₄ (omega arith) (omega arith) in
+    let v₂ = laid-next from (from - 1 + 2) _ s₀ s₁ v₁ f s₂ (from - 1 + w) e₂ (omega arith) (omega arith) in
+    let v₃ = laid-next from (from - 1 + w) _ s₀ s₂ v₂ (decimal 2 reason) s₃ (from - 1 + w + 2) e₃ (omega (arith, length-decimal 2 reason)) (omega arith) in
+    let v₄ = laid-next from (from - 1 + w + 2) _ s₀ s₃ v₃ lineEnd s₄ (from - 1 + w + 3) e₄ (omega arith) (omega arith) in
     v₄ .is ∙ rw ef
 
 pub foot-written : (from : ℕ) (s₀ s₁ s₂ s₃ : List ℕ) → 1 ≤ from → from - 1 + 64 ≤ length s₀
@@ -94,41 +96,41 @@ foot-written from s₀ s₁ s₂ s₃ o n e₁ e₂ e₃ =
 
 -- ---- a line answered or not
 
-pub said-none : (v : ℕ) (l : List ℕ) → v ≡ 0 → said v l ≡ []
+pub said-none : (w v : ℕ) (l : List ℕ) → v ≡ 0 → said w v l ≡ []
 unfolding said onto flat bad
-said-none v l e = rw e
+said-none w v l e = rw e
 
-pub said-one : (v : ℕ) (l : List ℕ) → (v ≡ 0 → ⊥) → said v l ≡ answer v l
+pub said-one : (w v : ℕ) (l : List ℕ) → (v ≡ 0 → ⊥) → said w v l ≡ answer w v l
 unfolding said onto flat bad
-said-one zero l n = absurd (n refl)
-said-one (suc v) l n = append-nil (answer (suc v) l)
+said-one w zero l n = absurd (n refl)
+said-one w (suc v) l n = append-nil (answer w (suc v) l)
 
-said-long : (v : ℕ) (l : List ℕ) → (v ≡ 0 → ⊥) → 127 ≤ length l → length (said v l) ≡ 130
-said-long v l n h = ap length (said-one v l n) ∙ length-answer v l h
+said-long : (w v : ℕ) (l : List ℕ) → (v ≡ 0 → ⊥) → Holding w l → length (said w v l) ≡ answerLength w
+said-long w v l n h = ap length (said-one w v l n) ∙ length-answer w v l h
 
-pub answer-fits : (from v m : ℕ) (l : List ℕ) → from - 1 + length (said v l) ≤ m → (v ≡ 0 → ⊥) → 127 ≤ length l → from - 1 + 130 ≤ m
-answer-fits from v m l r n h = omega (arith, said-long v l n h)
+pub answer-fits : (from w v m : ℕ) (l : List ℕ) → from - 1 + length (said w v l) ≤ m → (v ≡ 0 → ⊥) → Holding w l → from - 1 + answerLength w ≤ m
+answer-fits from w v m l r n h = omega (arith, said-long w v l n h)
 
-module _ (from v : ℕ) (l s : List ℕ) (o : 1 ≤ from) (room : from - 1 + length (said v l) ≤ length s) where
-  pub line-passed : v ≡ 0 → Laid from from (said v l) s s
-  line-passed e = rw (said-none v l e) (laid-start from s o (omega arith))
+module _ (from w v : ℕ) (l s : List ℕ) (o : 1 ≤ from) (room : from - 1 + length (said w v l) ≤ length s) where
+  pub line-passed : v ≡ 0 → Laid from from (said w v l) s s
+  line-passed e = rw (said-none w v l e) (laid-start from s o (omega arith))
 
-  pub line-answered : (s′ : List ℕ) → s′ ≡ putField from (answer v l) s → (v ≡ 0 → ⊥) → 127 ≤ length l → Laid from (from + 130) (said v l) s s′
-  line-answered s′ e n h = laid from (from + 130) (said v l) s s′ (e ∙ rw (said-one v l n)) (omega (arith, said-long v l n h)) o (omega (arith, said-long v l n h))
+  pub line-answered : (s′ : List ℕ) → s′ ≡ putField from (answer w v l) s → (v ≡ 0 → ⊥) → Holding w l → Laid from (from + w + 2) (said w v l) s s′
+  line-answered s′ e n h = laid from (from + w + 2) (said w v l) s s′ (e ∙ rw (said-one w v l n)) (omega (arith, said-long w v l n h)) o (omega (arith, said-long w v l n h))
 
--- ---- the lines, one after another; b is the body, and o the block before
+-- ---- the lines, one after another, w bytes each; b is the body, and o the block before
 
 -- the first i are answered, and q is the position behind
-unfoldable pub Answered : List ℕ → List ℕ → List ℕ → List ℕ → ℕ → ℕ → Type 0
-Answered vs b o s i q = Laid 111 q (flat (answers vs (chop 128 i b))) o s
+unfoldable pub Answered : ℕ → List ℕ → List ℕ → List ℕ → List ℕ → ℕ → ℕ → Type 0
+Answered w vs b o s i q = Laid 111 q (flat (answers w vs (chop w i b))) o s
 
-module _ (vs b o : List ℕ) where
-  pub answered-start : 110 ≤ length o → Answered vs b o o 0 111
+module _ (w : ℕ) (vs b o : List ℕ) where
+  pub answered-start : hgcHeaderLength ≤ length o → Answered w vs b o o 0 111
   unfolding Answered flat chop
-  answered-start r = rw (answers-none vs) (laid-start 111 o (omega arith) (omega arith))
+  answered-start r = rw (answers-none w vs) (laid-start 111 o (omega arith) (omega arith))
 
-  module _ (s : List ℕ) (i q : ℕ) (a : Answered vs b o s i q) where
-    pub answered-end : (n : ℕ) → n ≤ i → i ≤ n → Laid 111 q (flat (answers vs (chop 128 n b))) o s
+  module _ (s : List ℕ) (i q : ℕ) (a : Answered w vs b o s i q) where
+    pub answered-end : (n : ℕ) → n ≤ i → i ≤ n → Laid 111 q (flat (answers w vs (chop w n b))) o s
     unfolding Answered
     answered-end n h k = let e : i ≡ n = omega arith in rw e at a
 
@@ -136,52 +138,67 @@ module _ (vs b o : List ℕ) where
     unfolding Answered
     answered-length = laid-length 111 q _ o s a
 
-    module _ (h : i < length vs) (m : length vs * 128 ≤ length b) where
-      next-said : flat (answers vs (chop 128 (i + 1) b)) ≡ flat (answers vs (chop 128 i b)) ++ said (getD vs i 0) (partAt 128 i b)
+    module _ (h : i < length vs) (m : length vs * w ≤ length b) where
+      next-said : flat (answers w vs (chop w (i + 1) b)) ≡ flat (answers w vs (chop w i b)) ++ said w (getD vs i 0) (partAt w i b)
       unfolding said
       next-said =
-          let e : length (chop 128 i b) ≡ i = length-chop 128 i b in
-          rw (chop-snoc 128 i b, answers-more vs (chop 128 i b) (partAt 128 i b) (omega arith), e, flat-append)
+          let e : length (chop w i b) ≡ i = length-chop w i b in
+          rw (chop-snoc w i b, answers-more w vs (chop w i b) (partAt w i b) (omega arith), e, flat-append)
 
-      module _ (l : List ℕ) (p : l ≡ partAt 128 i b) where
-        pub line-long : 127 ≤ length l
-        line-long = let e : length l ≡ 128 = ap length p ∙ length-part 128 i b (part-fits 128 (length vs) i (length b) m h) in omega arith
+      module _ (l : List ℕ) (p : l ≡ partAt w i b) (wide : 3 ≤ w) where
+        pub line-long : Holding w l
+        line-long = let e : length l ≡ w = ap length p ∙ length-part w i b (part-fits w (length vs) i (length b) m h) in (wide, omega arith)
 
-        pub answered-room : 110 + tally bad vs * 130 ≤ length o → (1 ≤ q) × ((q - 1 + length (said (getD vs i 0) l) ≤ length s) × (127 ≤ length l))
+        pub answered-room : hgcHeaderLength + tally bad vs * answerLength w ≤ length o → (1 ≤ q) × ((q - 1 + length (said w (getD vs i 0) l) ≤ length s) × Holding w l)
         unfolding Answered
         answered-room r =
-            let done : List ℕ = flat (answers vs (chop 128 i b)) in
-            let m′ : length (flat (answers vs (chop 128 (i + 1) b))) ≡ length (answers vs (chop 128 (i + 1) b)) * 130 = length-answers vs (each-chop 128 (i + 1) b (omega arith)) in
-            let k = answers-most vs (chop 128 (i + 1) b) in
-            let e : length (flat (answers vs (chop 128 (i + 1) b))) ≡ length done + length (said (getD vs i 0) l) = ap length next-said ∙ length-append done (said (getD vs i 0) (partAt 128 i b)) ∙ rw p in
+            let done : List ℕ = flat (answers w vs (chop w i b)) in
+            let more : List (List ℕ) = answers w vs (chop w (i + 1) b) in
+            let m′ : length (flat more) ≡ length more * answerLength w = length-answers w wide vs (each-chop w (i + 1) b (omega (arith, part-fits w (length vs) i (length b) m h))) in
+            let k : length more * answerLength w ≤ tally bad vs * answerLength w = mul-le-mul-right (answerLength w) (answers-most w vs (chop w (i + 1) b)) in
+            let e : length (flat more) ≡ length done + length (said w (getD vs i 0) l) = ap length next-said ∙ length-append done (said w (getD vs i 0) (partAt w i b)) ∙ rw p in
             let n : length s ≡ length o = laid-length 111 q done o s a in
             (omega (arith, a .behind), (omega (arith, a .behind), line-long))
 
-        pub answered-turn : (s′ : List ℕ) (q′ : ℕ) → Laid q q′ (said (getD vs i 0) l) s s′ → Answered vs b o s′ (i + 1) q′
+        pub answered-turn : (s′ : List ℕ) (q′ : ℕ) → Laid q q′ (said w (getD vs i 0) l) s s′ → Answered w vs b o s′ (i + 1) q′
         unfolding Answered
         answered-turn s′ q′ d = rw next-said (laid-join 111 q q′ _ _ o s s′ a (rw p at d))
 
+-- no more than all lines of a file can have
+pub most-answers : (w n : ℕ) → (w ≤ lineMost) × (n ≤ linesMost) → n * answerLength w ≤ linesMost * answerLength lineMost
+most-answers w n (a, b) = omega (arith, mul-le-mul-right (answerLength w) b)
+
 -- ---- the whole; s₁ to s₄ are the block after each part, and q is the position of the footer
 
-pub lines-fit : (h b : List ℕ) (n : ℕ) → b ≡ body h → n ≡ linesIn h → n * 128 ≤ length b
-lines-fit h b n e k = rw (e, k, ← width-is h) (lines-room h)
+-- m bytes are there for them
+pub answers-fit : (h vs b : List ℕ) (w rejected m : ℕ) → b ≡ body h → w ≡ widthOf h → length vs ≡ linesIn h → rejected ≡ tally bad vs → confirmationLength (widthOf h) rejected ≤ m
+    → (k : ℕ) → k ≡ m → (3 ≤ w) × ((length vs * w ≤ length b) × (hgcHeaderLength + tally bad vs * answerLength w ≤ k))
+answers-fit h vs b w rejected m e d n er room k ek =
+    let r : confirmationLength (widthOf h) (tally bad vs) ≤ m = rw er at room in
+    rw (e, d, n) (width-has h 3 (omega arith), (lines-room h, omega arith))
 
-module _ (h vs b s₂ s₃ : List ℕ) (q : ℕ) (eb : b ≡ body h) (v : Laid 111 q (flat (answers vs (chop 128 (length vs) b))) s₂ s₃) (each : length vs ≡ linesIn h) where
-  lines-laid : Laid 111 q (flat (answers vs (linesOf h))) s₂ s₃
+module _ (h vs b s₂ s₃ : List ℕ) (w q : ℕ) (eb : b ≡ body h) (ew : w ≡ widthOf h) (v : Laid 111 q (flat (answers w vs (chop w (length vs) b))) s₂ s₃) (each : length vs ≡ linesIn h) where
+  lines-laid : Laid 111 q (flat (answers (widthOf h) vs (linesOf h))) s₂ s₃
   unfolding linesOf
-  lines-laid = rw (each, eb, ← width-is h) at v
+  lines-laid = rw (each, eb, ew) at v
 
-  foot-place : q ≤ 111 + tally bad vs * 130
-  foot-place = omega (arith, lines-laid .behind, length-answers vs (each-lined h), answers-most vs (linesOf h))
+  foot-place : q ≤ 111 + tally bad vs * answerLength (widthOf h)
+  foot-place =
+      let k : length (answers (widthOf h) vs (linesOf h)) * answerLength (widthOf h) ≤ tally bad vs * answerLength (widthOf h) = mul-le-mul-right (answerLength (widthOf h)) (answers-most (widthOf h) vs (linesOf h)) in
+      omega (arith, lines-laid .behind, length-answers (widthOf h) (width-has h 3 (omega arith)) vs (each-line h))
 
-  pub foot-fits : confirmationLength (tally bad vs) ≤ length s₂ → (1 ≤ q) × (q - 1 + 64 ≤ length s₃)
-  foot-fits r = let n : length s₃ ≡ length s₂ = laid-length 111 q _ s₂ s₃ v in (omega (arith, v .behind), omega (arith, v .behind, foot-place))
+  pub foot-fits : (rejected m : ℕ) → rejected ≡ tally bad vs → confirmationLength (widthOf h) rejected ≤ m → length s₂ ≡ m → (1 ≤ q) × (q - 1 + 64 ≤ length s₃)
+  foot-fits rejected m er room e =
+      let r : confirmationLength (widthOf h) (tally bad vs) ≤ m = rw er at room in
+      let n : length s₃ ≡ length s₂ = laid-length 111 q _ s₂ s₃ v in
+      (omega (arith, v .behind), omega (arith, v .behind, foot-place))
 
-  pub written : (reception o s₁ s₄ : List ℕ) (taken rejected : ℕ) → length reception ≡ 14 → lengthHolds h ≡ true → taken ≡ tally good vs → rejected ≡ tally bad vs → confirmationLength rejected ≤ length o
+  pub written : (reception o s₁ s₄ : List ℕ) (taken rejected : ℕ) → length reception ≡ 14 → lengthHolds h ≡ true → taken ≡ tally good vs → rejected ≡ tally bad vs → confirmationLength (widthOf h) rejected ≤ length o
       → s₁ ≡ putField 1 (names reception h) o → s₂ ≡ putField 47 (counts taken rejected) s₁ → s₄ ≡ putField q foot s₃
       → s₄ ≡ confirmation reception h vs ++ drop (length (confirmation reception h vs)) o
   unfolding confirmation head
   written reception o s₁ s₄ taken rejected dated whole et er room e₁ e₂ e₄ =
+      let r : confirmationLength (widthOf h) (tally bad vs) ≤ length o = rw er at room in
       let l : length (names reception h) ≡ 46 = length-names reception h dated (omega (arith, length-least h whole)) in
       let v₁ = laid 1 47 (names reception h) o s₁ e₁ (omega arith) (omega arith) (omega arith) in
       let v₂ = laid-next 1 47 _ o s₁ v₁ (counts taken rejected) s₂ 111 e₂ (omega (arith, length-counts taken rejected)) (omega arith) in

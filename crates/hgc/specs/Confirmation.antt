@@ -1,4 +1,5 @@
--- The confirmation (HGC): header 110, a line of 130 for each rejected line, footer 64. Assumes nothing.
+-- The confirmation (HGC): header 110, a line for each rejected line, 130 where the HGV's have 128, footer 64. w is the width of
+-- the HGV's lines. Assumes nothing.
 use Prim.Native.Nat.{ℕ, zero, suc, _+_, _*_}
 use mathlib.Core.List.{List, [], _∷_, _++_}
 use lib.ListN.{replicate}
@@ -10,16 +11,17 @@ use Rattle.theory.specs.Join.{flat}
 use Rattle.texts.specs.Field.{lineEnd}
 use Rattle.numbers.specs.Number.{decimal}
 use Rattle.columns.specs.Columns.{text}
-use Rattle.hgv.specs.Layout.{linesOf}
-use Rattle.sizes.specs.Sizes.{lineLength, footerLength, hgcHeaderLength, reasonLength}
+use Rattle.hgv.specs.Layout.{widthOf, linesOf}
+use Rattle.sizes.specs.Sizes.{footerLength, hgcHeaderLength, reasonLength}
 use Rattle.header.specs.Header.{sender, listSequence}
 
-abbrev pub answerLength : ℕ
-answerLength = lineLength + reasonLength
+-- a line of it is longer than the HGV's by its reason
+abbrev pub answerLength : ℕ → ℕ
+answerLength w = w + reasonLength
 
 -- as long as 110 + 130 x rejected + 64
-abbrev pub confirmationLength : ℕ → ℕ
-confirmationLength rejected = hgcHeaderLength + rejected * answerLength + footerLength
+abbrev pub confirmationLength : ℕ → ℕ → ℕ
+confirmationLength w rejected = hgcHeaderLength + rejected * answerLength w + footerLength
 
 unfoldable pub zeros : ℕ → List ℕ
 zeros n = replicate n 48
@@ -41,15 +43,15 @@ counts taken rejected = decimal 15 taken ++ decimal 15 rejected ++ bytes "120001
 unfoldable pub head : List ℕ → List ℕ → ℕ → ℕ → List ℕ
 head reception h taken rejected = names reception h ++ counts taken rejected
 
--- a rejected line: `1`, positions 2-127 as sent, reason, LF
-unfoldable pub answer : ℕ → List ℕ → List ℕ
-answer reason l = bytes "1" ++ text l ++ decimal 2 reason ++ lineEnd
+-- a rejected line: `1`, its text (positions 2-127) as sent, reason, LF
+unfoldable pub answer : ℕ → ℕ → List ℕ → List ℕ
+answer w reason l = bytes "1" ++ text w l ++ decimal 2 reason ++ lineEnd
 
 -- per rejected line, in file order
-unfoldable pub answers : List ℕ → List (List ℕ) → List (List ℕ)
-answers [] ls = []
-answers (v ∷ vs) [] = []
-answers (v ∷ vs) (l ∷ ls) = onto (bad v) (answer v l) (answers vs ls)
+unfoldable pub answers : ℕ → List ℕ → List (List ℕ) → List (List ℕ)
+answers w [] ls = []
+answers w (v ∷ vs) [] = []
+answers w (v ∷ vs) (l ∷ ls) = onto (bad v) (answer w v l) (answers w vs ls)
 
 -- `2`, 62 zeros, LF, as the HGV's
 unfoldable pub foot : List ℕ
@@ -57,4 +59,4 @@ foot = bytes "2" ++ zeros 62 ++ lineEnd
 
 -- the confirmation of the HGV h received at `reception`, whose lines have the verdicts vs
 unfoldable pub confirmation : List ℕ → List ℕ → List ℕ → List ℕ
-confirmation reception h vs = head reception h (tally good vs) (tally bad vs) ++ flat (answers vs (linesOf h)) ++ foot
+confirmation reception h vs = head reception h (tally good vs) (tally bad vs) ++ flat (answers (widthOf h) vs (linesOf h)) ++ foot

@@ -10,6 +10,6 @@ abbrev pub Write : List ℕ → List ℕ → List ℕ → List ℕ → ℕ → �
 Write hgc reception h vs _ _ after =
     after ≡ confirmation reception h vs ++ drop (length (confirmation reception h vs)) hgc
 
--- of a confirmation with so many rejected lines
-abbrev pub LengthFor : ℕ → ℕ → Type 0
-LengthFor rejected r = r ≡ confirmationLength rejected
+-- of a confirmation with so many rejected lines of this width
+abbrev pub LengthFor : ℕ → ℕ → ℕ → Type 0
+LengthFor w rejected r = r ≡ confirmationLength w rejected

@@ -11,14 +11,11 @@ ghost use Rattle.theory.specs.Tally.{tally};
 ghost use Rattle.theory.specs.Join.{flat};
 ghost use Rattle.writing.specs.Put.{putField};
 ghost use Rattle.writing.specs.laws.Laid.{Laid};
-ghost use Rattle.hgv.specs.Layout.{linesIn, lengthHolds};
-ghost use Rattle.sizes.specs.Sizes.{headerLength, lineLength, footerLength, linesMost, hgcHeaderLength};
+ghost use Rattle.hgv.specs.Layout.{widthOf, linesIn, lengthHolds};
+ghost use Rattle.sizes.specs.Sizes.{headerLength, lineMost, footerLength, linesMost, hgcHeaderLength};
 ghost use Rattle.hgc.specs.Confirmation.{answerLength, confirmationLength, zeros, outcome, names, counts, answer, answers, foot};
-ghost use Rattle.hgc.specs.laws.Confirmation.{said};
+ghost use Rattle.hgc.specs.laws.Confirmation.{said, Holding};
 ghost use Rattle.hgc.specs.Promises.{Write, LengthFor};
-
-// A line of it is longer than the HGV's by its reason.
-const LINE: usize = sizes::LINE + sizes::REASON;
 
 // The digits of a count.
 const COUNT: usize = 15;
@@ -77,40 +74,42 @@ fn put_counts(hgc: &mut [u8], taken: u64, rejected: u64)
     writing::put_field(hgc, places::HEADER_END, b"\n");
 }
 
-fn put_answer(hgc: &mut [u8], from: usize, line: &[u8], reason: u8)
-    requires { ⌜ (1 ≤ from) × ((from - 1 + answerLength ≤ length (now hgc)) × (127 ≤ length (now line))) ⌝ }
-    ensures { λ _. ⌜ now (hgc .exit) ≡ putField from (answer reason (now (line .entry))) (now (hgc .entry)) ⌝ }
+fn put_answer(hgc: &mut [u8], from: usize, line: &[u8], width: usize, reason: u8)
+    requires { ⌜ (1 ≤ from) × ((from - 1 + answerLength width ≤ length (now hgc)) × Holding width (now line)) ⌝ }
+    ensures { λ _. ⌜ now (hgc .exit) ≡ putField from (answer width reason (now (line .entry))) (now (hgc .entry)) ⌝ }
 {
     let at = from - 1;
-    let text = texts::field(line, places::TEXT_FROM, places::TEXT_TO);
+    let text = texts::field(line, columns::TEXT_FROM, width - 1);
     writing::put_field(hgc, at + places::LINE_TYPE, b"1");
-    writing::put_field(hgc, at + places::TEXT_FROM, text);
-    numbers::put_number(hgc, at + places::REASON_FROM, sizes::REASON, reason as u64);
-    writing::put_field(hgc, at + places::LINE_END, b"\n");
+    writing::put_field(hgc, at + columns::TEXT_FROM, text);
+    numbers::put_number(hgc, at + width, sizes::REASON, reason as u64);
+    writing::put_field(hgc, at + width + sizes::REASON, b"\n");
 }
 
 // The answer to a line, where its verdict rejects it; the position behind.
-fn answer_line(hgc: &mut [u8], from: usize, line: &[u8], verdict: u8) -> usize
-    requires { ⌜ (1 ≤ from) × ((from - 1 + length (said verdict (now line)) ≤ length (now hgc)) × (127 ≤ length (now line))) ⌝ }
-    ensures { λ r. ⌜ Laid from r (said verdict (now (line .entry))) (now (hgc .entry)) (now (hgc .exit)) ⌝ }
+fn answer_line(hgc: &mut [u8], from: usize, line: &[u8], width: usize, verdict: u8) -> usize
+    requires { ⌜ (1 ≤ from) × ((from - 1 + length (said width verdict (now line)) ≤ length (now hgc)) × Holding width (now line)) ⌝ }
+    ensures { λ r. ⌜ Laid from r (said width verdict (now (line .entry))) (now (hgc .entry)) (now (hgc .exit)) ⌝ }
 {
     if verdict == 0 {
         return from;
     }
-    put_answer(hgc, from, line, verdict);
-    from + LINE
+    put_answer(hgc, from, line, width, verdict);
+    from + width + sizes::REASON
 }
 
 // The answers behind the header; the position behind them.
-fn put_answers(hgc: &mut [u8], lines: &[u8], verdicts: &[u8]) -> usize
-    requires lined { ⌜ length (now verdicts) * lineLength ≤ length (now lines) ⌝ }
-    requires room { ⌜ hgcHeaderLength + tally bad (now verdicts) * answerLength ≤ length (now hgc) ⌝ }
-    ensures { λ r. ⌜ Laid 111 r (flat (answers (now (verdicts .entry)) (chop lineLength (length (now (verdicts .entry))) (now (lines .entry))))) (now (hgc .entry)) (now (hgc .exit)) ⌝ }
+fn put_answers(hgc: &mut [u8], lines: &[u8], width: usize, verdicts: &[u8]) -> usize
+    requires wide { ⌜ 3 ≤ width ⌝ }
+    requires lined { ⌜ length (now verdicts) * width ≤ length (now lines) ⌝ }
+    requires room { ⌜ hgcHeaderLength + tally bad (now verdicts) * answerLength width ≤ length (now hgc) ⌝ }
+    ensures { λ r. ⌜ Laid 111 r (flat (answers width (now (verdicts .entry)) (chop width (length (now (verdicts .entry))) (now (lines .entry))))) (now (hgc .entry)) (now (hgc .exit)) ⌝ }
 {
     let mut behind = sizes::HGC_HEADER + 1;
     let mut i: usize = 0;
     while i < verdicts.len() {
-        behind = answer_line(hgc, behind, texts::part(lines, sizes::LINE, i), verdicts[i]);
+        let line = texts::part(lines, width, i);
+        behind = answer_line(hgc, behind, line, width, verdicts[i]);
         i += 1;
     }
     behind
@@ -140,19 +139,19 @@ pub fn write(
     requires judged { ⌜ length (now verdicts) ≡ linesIn (now hgv) ⌝ }
     requires counted { ⌜ taken ≡ tally good (now verdicts) ⌝ }
     requires answered { ⌜ rejected ≡ tally bad (now verdicts) ⌝ }
-    requires room { ⌜ confirmationLength rejected ≤ length (now hgc) ⌝ }
+    requires room { ⌜ confirmationLength (widthOf (now hgv)) rejected ≤ length (now hgc) ⌝ }
     ensures { λ _. ⌜ Write (now (hgc .entry)) (now (reception .entry)) (now (hgv .entry)) (now (verdicts .entry)) taken rejected (now (hgc .exit)) ⌝ }
 {
     put_names(hgc, reception, hgv);
     put_counts(hgc, taken, rejected);
-    let behind = put_answers(hgc, hgv::body(hgv), verdicts);
+    let behind = put_answers(hgc, hgv::body(hgv), hgv::width(hgv), verdicts);
     put_foot(hgc, behind);
 }
 
-// How long the confirmation is.
-pub fn length_for(rejected: usize) -> usize
-    requires { ⌜ rejected ≤ linesMost ⌝ }
-    ensures { λ r. ⌜ LengthFor rejected r ⌝ }
+// How long the confirmation is with so many rejected lines of this width; a line of it is longer by its reason.
+pub fn length_for(width: usize, rejected: usize) -> usize
+    requires { ⌜ (width ≤ lineMost) × (rejected ≤ linesMost) ⌝ }
+    ensures { λ r. ⌜ LengthFor width rejected r ⌝ }
 {
-    sizes::HGC_HEADER + rejected * LINE + sizes::FOOTER
+    sizes::HGC_HEADER + rejected * (width + sizes::REASON) + sizes::FOOTER
 }

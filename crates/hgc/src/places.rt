@@ -41,18 +41,8 @@ pub const OUTCOME_TO: usize = 109;
 
 pub const HEADER_END: usize = 110;
 
-// A line; its text stands where it stood in the HGV.
+// A line; its text stands where it stood in the HGV, its reason from the position on that the HGV's line ends at, and LF behind.
 pub const LINE_TYPE: usize = 1;
-
-pub const TEXT_FROM: usize = 2;
-
-pub const TEXT_TO: usize = 127;
-
-pub const REASON_FROM: usize = 128;
-
-pub const REASON_TO: usize = 129;
-
-pub const LINE_END: usize = 130;
 
 // The footer.
 pub const FOOTER_TYPE: usize = 1;

@@ -1,5 +1,5 @@
 -- The import: its stops, its answer, the register after it and the HGC's buffer after it, for every mode and every text
--- of every length. Assumes nothing.
+-- of every length. f is what is handed over. Assumes nothing.
 use Prim.Native.Nat.{ℕ}
 use mathlib.Core.List.{List, [], _∷_, _++_}
 use lib.Dec.{ltb}
@@ -19,63 +19,59 @@ use Rattle.hgc.specs.Confirmation.{confirmation}
 use Rattle.holdings.specs.Holdings.{holdings}
 use Rattle.stops.specs.Stops.{formStops}
 use Rattle.importer.specs.declared.Imported.{Imported}
+use Rattle.importer.specs.Handed.{Handed}
 
--- the verdicts of the file's lines, beside the register as it was
+-- the verdicts of the lines of the HGV h, beside the register as it was
 unfoldable pub judged : List ℕ → List ℕ → List ℕ → List ℕ
 judged register rows h = fileVerdicts rows (records register) h
 
 -- the records that follow
-unfoldable pub following : ℕ → List ℕ → List ℕ → List ℕ → List ℕ → List (List ℕ)
-following mode reception register rows h = holdings mode (sender h) (recordOf reception) (records register) (taken (judged register rows h) h)
+unfoldable pub following : Handed → List ℕ → List (List ℕ)
+following f register =
+    holdings (f .mode) (sender (f .hgv)) (recordOf (f .reception)) (records register) (taken (judged register (f .rows) (f .hgv)) (f .hgv))
 
 -- the confirmation that answers the file
-unfoldable pub confirmed : List ℕ → List ℕ → List ℕ → List ℕ → List ℕ
-confirmed reception register rows h = confirmation reception h (judged register rows h)
+unfoldable pub confirmed : Handed → List ℕ → List ℕ
+confirmed f register = confirmation (f .reception) (f .hgv) (judged register (f .rows) (f .hgv))
 
 -- 33 more used slots would follow than there are; 34 HGC buffer too short
-unfoldable pub roomStops : ℕ → List ℕ → List ℕ → List ℕ → List ℕ → List ℕ → List Rule
-roomStops mode reception register rows h hgc =
-    (33 if ltb (slotsIn register) (length (following mode reception register rows h)))
-    ∷ (34 if ltb (length hgc) (length (confirmed reception register rows h)))
+unfoldable pub roomStops : Handed → List ℕ → List Rule
+roomStops f register =
+    (33 if ltb (slotsIn register) (length (following f register)))
+    ∷ (34 if ltb (length (f .hgc)) (length (confirmed f register)))
     ∷ []
 
 -- all stops, in their order
-unfoldable pub stops : ℕ → List ℕ → List ℕ → List ℕ → List ℕ → List ℕ → List Rule
-stops mode reception register rows h hgc = formStops mode reception register rows h ++ roomStops mode reception register rows h hgc
+unfoldable pub stops : Handed → List ℕ → List Rule
+stops f register = formStops (f .mode) (f .reception) register (f .rows) (f .hgv) ++ roomStops f register
 
 -- the number answered: the first that holds, 0 for success
-unfoldable pub numberOf : ℕ → List ℕ → List ℕ → List ℕ → List ℕ → List ℕ → ℕ
-numberOf mode reception register rows h hgc = first (stops mode reception register rows h hgc)
+unfoldable pub importNumber : Handed → List ℕ → ℕ
+importNumber f register = first (stops f register)
 
 -- a stop returns its number and zero counts
 unfoldable pub refusal : ℕ → Imported
 refusal number = record { number = number; taken = 0; rejected = 0; length = 0 }
 
 -- success returns 0 and the three numbers
-unfoldable pub success : List ℕ → List ℕ → List ℕ → List ℕ → Imported
-success reception register rows h =
-    record {
-      number = 0;
-      taken = tally good (judged register rows h);
-      rejected = tally bad (judged register rows h);
-      length = length (confirmed reception register rows h);
-    }
+unfoldable pub success : Handed → List ℕ → Imported
+success f register =
+    let vs : List ℕ = judged register (f .rows) (f .hgv) in
+    record { number = 0; taken = tally good vs; rejected = tally bad vs; length = length (confirmed f register) }
 
-unfoldable pub answer : ℕ → List ℕ → List ℕ → List ℕ → List ℕ → List ℕ → Imported
-answer mode reception register rows h hgc =
-    let n : ℕ = numberOf mode reception register rows h hgc in
-    unlessStopped n (success reception register rows h) (refusal n)
+unfoldable pub importAnswer : Handed → List ℕ → Imported
+importAnswer f register = let n : ℕ = importNumber f register in unlessStopped n (success f register) (refusal n)
 
 -- the records that follow, and free slots behind them
-unfoldable pub written : ℕ → List ℕ → List ℕ → List ℕ → List ℕ → List ℕ
-written mode reception register rows h = flat (pad slotLength (slotsIn register) (following mode reception register rows h))
+unfoldable pub registerWritten : Handed → List ℕ → List ℕ
+registerWritten f register = flat (pad slotLength (slotsIn register) (following f register))
 
-unfoldable pub registerAfter : ℕ → List ℕ → List ℕ → List ℕ → List ℕ → List ℕ → List ℕ
-registerAfter mode reception register rows h hgc = unlessStopped (numberOf mode reception register rows h hgc) (written mode reception register rows h) register
+unfoldable pub registerAfter : Handed → List ℕ → List ℕ
+registerAfter f register = unlessStopped (importNumber f register) (registerWritten f register) register
 
 -- the confirmation in front; bytes beyond it keep their values
-unfoldable pub told : List ℕ → List ℕ → List ℕ → List ℕ → List ℕ → List ℕ
-told reception register rows h hgc = let c : List ℕ = confirmed reception register rows h in c ++ drop (length c) hgc
+unfoldable pub hgcWritten : Handed → List ℕ → List ℕ
+hgcWritten f register = let c : List ℕ = confirmed f register in c ++ drop (length c) (f .hgc)
 
-unfoldable pub hgcAfter : ℕ → List ℕ → List ℕ → List ℕ → List ℕ → List ℕ → List ℕ
-hgcAfter mode reception register rows h hgc = unlessStopped (numberOf mode reception register rows h hgc) (told reception register rows h hgc) hgc
+unfoldable pub hgcAfter : Handed → List ℕ → List ℕ
+hgcAfter f register = unlessStopped (importNumber f register) (hgcWritten f register) (f .hgc)

@@ -1,3 +1,4 @@
+pub mod Handed
 pub mod Import
 pub mod Promises
 pub mod laws

@@ -8,7 +8,8 @@ ghost use Rattle.stops.specs.laws.Clear.{Clear};
 ghost use Rattle.hgv.specs.Layout.{widthOf, linesIn, body};
 ghost use Rattle.slots.specs.Slots.{records};
 ghost use Rattle.holdings.specs.Places.{placesAfter};
-ghost use Rattle.importer.specs.Import.{judged, roomStops, refusal, success, written, told};
+ghost use Rattle.importer.specs.Handed.{handed};
+ghost use Rattle.importer.specs.Import.{judged, roomStops, refusal, success, registerWritten, hgcWritten};
 ghost use Rattle.applying.specs.laws.Sought.{NoPlaces};
 ghost use Rattle.importer.specs.laws.Accepted.{Accepted};
 ghost use Rattle.importer.specs.Promises.{Import};
@@ -48,7 +49,7 @@ fn room_stop(
     requires verdict { ⌜ now verdicts ≡ judged (now register) (now rows) (now hgv) ⌝ }
     requires counted { ⌜ rejected ≡ tally bad (now verdicts) ⌝ }
     requires many { ⌜ length (now found) ≡ length (now verdicts) ⌝ }
-    ensures stopped { λ r. ⌜ r ≡ first (roomStops mode (now (reception .entry)) (now (register .entry)) (now (rows .entry)) (now (hgv .entry)) (now (hgc .entry))) ⌝ }
+    ensures stopped { λ r. ⌜ r ≡ first (roomStops (handed mode (now (reception .entry)) (now (rows .entry)) (now (hgv .entry)) (now (hgc .entry))) (now (register .entry))) ⌝ }
     ensures placed { λ _. ⌜ now (found .exit) ≡ placesAfter mode (records (now (register .entry))) (widthOf (now (hgv .entry))) (body (now (hgv .entry))) (now (verdicts .entry)) (now (found .entry)) ⌝ }
 {
     let used = holdings::used_after(
@@ -60,7 +61,7 @@ fn room_stop(
         verdicts,
         found,
     );
-    let length = hgc::length_for(rejected as usize);
+    let length = hgc::length_for(hgv::width(hgv), rejected as usize);
     let s34 = rules::first(hgc.len() < length, 34, 0);
     rules::first(register.len() / sizes::SLOT < used, 33, s34)
 }
@@ -78,10 +79,10 @@ fn carry_out(
     rejected: u64,
     found: &[u16],
 ) -> Imported
-    requires { ⌜ Accepted mode (now reception) (now register) (now rows) (now hgv) (now hgc) (now verdicts) taken rejected (now found) ⌝ }
-    ensures answered { λ r. ⌜ r ≡ success (now (reception .entry)) (now (register .entry)) (now (rows .entry)) (now (hgv .entry)) ⌝ }
-    ensures stored { λ _. ⌜ now (register .exit) ≡ written mode (now (reception .entry)) (now (register .entry)) (now (rows .entry)) (now (hgv .entry)) ⌝ }
-    ensures confirmed { λ _. ⌜ now (hgc .exit) ≡ told (now (reception .entry)) (now (register .entry)) (now (rows .entry)) (now (hgv .entry)) (now (hgc .entry)) ⌝ }
+    requires { ⌜ Accepted (handed mode (now reception) (now rows) (now hgv) (now hgc)) (now register) (now verdicts) taken rejected (now found) ⌝ }
+    ensures answered { λ r. ⌜ r ≡ success (handed mode (now (reception .entry)) (now (rows .entry)) (now (hgv .entry)) (now (hgc .entry))) (now (register .entry)) ⌝ }
+    ensures stored { λ _. ⌜ now (register .exit) ≡ registerWritten (handed mode (now (reception .entry)) (now (rows .entry)) (now (hgv .entry)) (now (hgc .entry))) (now (register .entry)) ⌝ }
+    ensures confirmed { λ _. ⌜ now (hgc .exit) ≡ hgcWritten (handed mode (now (reception .entry)) (now (rows .entry)) (now (hgv .entry)) (now (hgc .entry))) (now (register .entry)) ⌝ }
 {
     applying::apply(
         mode,
@@ -94,7 +95,7 @@ fn carry_out(
         found,
     );
     hgc::write(hgc, reception, hgv, verdicts, taken, rejected);
-    let length = hgc::length_for(rejected as usize) as u64;
+    let length = hgc::length_for(hgv::width(hgv), rejected as usize) as u64;
     Imported {
         number: 0,
         taken,
@@ -118,7 +119,7 @@ fn import_judged(
     requires verdict { ⌜ now verdicts ≡ judged (now register) (now rows) (now hgv) ⌝ }
     requires many { ⌜ length (now found) ≡ linesIn (now hgv) ⌝ }
     requires none { ⌜ NoPlaces (now found) ⌝ }
-    ensures { λ r. ⌜ Import mode (now (reception .entry)) (now (register .entry)) (now (rows .entry)) (now (hgv .entry)) (now (hgc .entry)) r (now (register .exit)) (now (hgc .exit)) ⌝ }
+    ensures { λ r. ⌜ Import (handed mode (now (reception .entry)) (now (rows .entry)) (now (hgv .entry)) (now (hgc .entry))) (now (register .entry)) r (now (register .exit)) (now (hgc .exit)) ⌝ }
 {
     let taken = taken::count_taken(verdicts);
     let rejected = verdicts.len() as u64 - taken;
@@ -165,7 +166,7 @@ fn import_lines(
     requires each { ⌜ length (now verdicts) ≡ linesIn (now hgv) ⌝ }
     requires many { ⌜ length (now found) ≡ linesIn (now hgv) ⌝ }
     requires none { ⌜ NoPlaces (now found) ⌝ }
-    ensures { λ r. ⌜ Import mode (now (reception .entry)) (now (register .entry)) (now (rows .entry)) (now (hgv .entry)) (now (hgc .entry)) r (now (register .exit)) (now (hgc .exit)) ⌝ }
+    ensures { λ r. ⌜ Import (handed mode (now (reception .entry)) (now (rows .entry)) (now (hgv .entry)) (now (hgc .entry))) (now (register .entry)) r (now (register .exit)) (now (hgc .exit)) ⌝ }
 {
     verdicts::judge(hgv, rows, register, verdicts);
     import_judged(mode, reception, register, rows, hgv, hgc, verdicts, found)
@@ -179,7 +180,7 @@ pub fn import(
     hgv: &[u8],
     hgc: &mut [u8],
 ) -> Imported
-    ensures { λ r. ⌜ Import mode (now (reception .entry)) (now (register .entry)) (now (rows .entry)) (now (hgv .entry)) (now (hgc .entry)) r (now (register .exit)) (now (hgc .exit)) ⌝ }
+    ensures { λ r. ⌜ Import (handed mode (now (reception .entry)) (now (rows .entry)) (now (hgv .entry)) (now (hgc .entry))) (now (register .entry)) r (now (register .exit)) (now (hgc .exit)) ⌝ }
 {
     let form = stops::form_stop(mode, reception, register, rows, hgv);
     if form != 0 {

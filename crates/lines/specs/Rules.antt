@@ -42,8 +42,8 @@ L6 l = plate (plateOf l)
 unfoldable pub L7 : List ℕ → Bool
 L7 l = nationality (nationalityOf l)
 
-unfoldable pub stateless : List ℕ → Bool
-stateless l = run blank 3 (nationalityOf l)
+unfoldable pub nationalityBlank : List ℕ → Bool
+nationalityBlank l = run blank 3 (nationalityOf l)
 
 -- context mark: 12 digits 0-9A-F
 unfoldable pub L8 : List ℕ → Bool
@@ -68,7 +68,7 @@ lineRules rows sender l =
     ∷ (3 if not (L4 rows sender l))
     ∷ (2 if not (L5 l))
     ∷ (9 if not (L6 l))
-    ∷ (6 if stateless l)
+    ∷ (6 if nationalityBlank l)
     ∷ (9 if not (L7 l))
     ∷ (8 if not (L8 l))
     ∷ (5 if not (L9 l))

@@ -1,7 +1,7 @@
 // The rules of a line (L1 to L10) and of a record. A line comes as a part of the lent body, or of the register; one of
 // any length is judged.
 ghost use mathlib.Core.Path.{_≡_};
-ghost use Rattle.lines.specs.Rules.{stateless, L1, L2, L5, L6, L7, L8, L9, L10};
+ghost use Rattle.lines.specs.Rules.{nationalityBlank, L1, L2, L5, L6, L7, L8, L9, L10};
 ghost use Rattle.lines.specs.Promises.{LineFault, IsRecord};
 
 fn holds_l6(l: &[u8]) -> bool
@@ -61,8 +61,8 @@ fn holds_l5(l: &[u8]) -> bool
     pans::is_luhn(texts::field(l, columns::PAN_FROM, columns::PAN_TO))
 }
 
-fn is_stateless(l: &[u8]) -> bool
-    ensures { λ r. ⌜ r ≡ stateless (now (l .entry)) ⌝ }
+fn is_nationality_blank(l: &[u8]) -> bool
+    ensures { λ r. ⌜ r ≡ nationalityBlank (now (l .entry)) ⌝ }
 {
     fields::is_blanks(
         texts::field(l, columns::NATIONALITY_FROM, columns::NATIONALITY_TO),
@@ -86,7 +86,7 @@ pub fn line_fault(l: &[u8], sender: &[u8], rows: &[u8]) -> u64
     let v9 = rules::first(!holds_l9(l), 5, v10);
     let v8 = rules::first(!holds_l8(l), 8, v9);
     let v7 = rules::first(!holds_l7(l), 9, v8);
-    let v0 = rules::first(is_stateless(l), 6, v7);
+    let v0 = rules::first(is_nationality_blank(l), 6, v7);
     let v6 = rules::first(!holds_l6(l), 9, v0);
     let v5 = rules::first(!holds_l5(l), 2, v6);
     let v4 = rules::first(!fits, 3, v5);

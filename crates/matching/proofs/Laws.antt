@@ -1,11 +1,12 @@
 -- What the functions of this crate cite. Assumes nothing.
-use mathlib.Core.Path.{_≡_, refl, sym, _∙_}
+use mathlib.Core.Path.{_≡_, refl, sym, ap, _∙_}
 use mathlib.Core.Bool.{Bool, true, false, _&&_, true≢false}
 use mathlib.Core.List.{List, [], map}
-use Prim.Native.Nat.{ℕ, zero, suc, _*_, _-_, _≤_, _<_}
+use Prim.Native.Nat.{ℕ, zero, suc, _+_, _*_, _-_, _≤_, _<_}
 use native.Mathlib.Omega.{arith}
 use lib.Dec.{eqb}
 use lib.ListN.{length, getD, set, length-map, List·getD-map}
+use lib.Seq.{take-nil}
 use Rattle.theory.specs.laws.Truth.{and-assoc}
 use Rattle.theory.specs.Same.{eqs}
 use Rattle.theory.specs.laws.Same.{eqs-true, eq-eqs}
@@ -23,8 +24,7 @@ use Rattle.texts.specs.laws.Field.{field-field}
 use Rattle.numbers.specs.Number.{number}
 use Rattle.columns.specs.Columns.{text, panOf}
 use Rattle.hgv.specs.Layout.{widthOf, linesIn, body, linesOf}
-use Rattle.sizes.specs.Sizes.{lineLength}
-use Rattle.hgv.specs.laws.Layout.{lines-room, length-lines}
+use Rattle.hgv.specs.laws.Layout.{IsWidth, is-width, lines-room, length-lines}
 use Rattle.hgc.specs.Confirmation.{answerLength}
 use Rattle.pairing.specs.Backwards.{isLast, lower, waiting, paired}
 use Rattle.pairing.specs.laws.Backwards.{pairsUp, length-paired}
@@ -37,39 +37,44 @@ use Rattle.matching.specs.laws.Matching.{copies-pair, pair-marks, taken-
 
 -- ---- texts by their places
 
-pub length-texts : (w n : ℕ) (b : List ℕ) → length (textsIn w n b) ≡ n
+pub length-texts : (u w n : ℕ) (b : List ℕ) → length (textsIn u w n b) ≡ n
 unfolding textsIn
-length-texts w n b = length-map (chop w n b) text ∙ length-chop w n b
+length-texts u w n b = length-map (chop w n b) (text u) ∙ length-chop w n b
 
-text-at : (w n : ℕ) (b : List ℕ) (i : ℕ) → i < n → getD (textsIn w n b) i [] ≡ text (partAt w i b)
-unfolding textsIn field
-text-at w n b i h = List·getD-map text (chop w n b) i [] ∙ rw (getD-chop w n b i h)
+text-none : (u : ℕ) → text u [] ≡ []
+unfolding field
+text-none u = take-nil (u - 1 + 1 - 2)
+
+text-at : (u w n : ℕ) (b : List ℕ) (i : ℕ) → i < n → getD (textsIn u w n b) i [] ≡ text u (partAt w i b)
+unfolding textsIn
+text-at u w n b i h =
+    ap (λ (d : List ℕ). getD (map (text u) (chop w n b)) i d) (sym (text-none u)) ∙ List·getD-map (text u) (chop w n b) i [] ∙ rw (getD-chop w n b i h)
 
 -- lines with two PANs have two texts
-pub other-pan : (a b p : List ℕ) → p ≡ panOf b → (r : Bool) → r ≡ eqs (panOf a) p → r ≡ false → eqs (text a) (text b) ≡ false
-other-pan a b p q r e h = go (eqs (text a) (text b)) refl
+pub other-pan : (w : ℕ) → IsWidth w → (a b p : List ℕ) → p ≡ panOf b → (r : Bool) → r ≡ eqs (panOf a) p → r ≡ false → eqs (text w a) (text w b) ≡ false
+other-pan w wide a b p q r e h = go (eqs (text w a) (text w b)) refl
   where
-    pan : (l : List ℕ) → field 13 31 (text l) ≡ panOf l
-    pan l = field-field 13 31 2 127 l (omega arith) (omega arith) (omega arith)
+    pan : (l : List ℕ) → field 13 31 (text w l) ≡ panOf l
+    pan l = field-field 13 31 2 (w - 1) l (omega arith) (omega arith) (omega (arith, wide .0))
 
-    go : (c : Bool) → eqs (text a) (text b) ≡ c → c ≡ false
+    go : (c : Bool) → eqs (text w a) (text w b) ≡ c → c ≡ false
     go true u =
-        let s : panOf a ≡ panOf b = sym (pan a) ∙ rw (eqs-true (text a) (text b) u) (pan b) in
+        let s : panOf a ≡ panOf b = sym (pan a) ∙ rw (eqs-true (text w a) (text w b) u) (pan b) in
         absurd (true≢false (sym (eq-eqs (panOf a) p (s ∙ sym q)) ∙ (sym e ∙ h)))
     go false u = refl
 
 -- ---- the last copy
 
 -- x is the copy before the place k
-pub last-is : (w k : ℕ) (b t : List ℕ) → (k ≡ 0 → ⊥) → (x : List ℕ) → x ≡ partAt w (k - 1) b → (r : Bool) → r ≡ eqs t (text x) → r ≡ isLast (textsIn w k b) k t
-last-is w k b t h x p r e =
-    sym (last-some (textsIn w k b) k t (omega (arith, h)) ∙ rw (text-at w k b (k - 1) (omega (arith, h)), ← p, ← e))
+pub last-is : (u w k : ℕ) (b t : List ℕ) → (k ≡ 0 → ⊥) → (x : List ℕ) → x ≡ partAt w (k - 1) b → (r : Bool) → r ≡ eqs t (text u x) → r ≡ isLast (textsIn u w k b) k t
+last-is u w k b t h x p r e =
+    sym (last-some (textsIn u w k b) k t (omega (arith, h)) ∙ rw (text-at u w k b (k - 1) (omega (arith, h)), ← p, ← e))
 
 -- more copies behind it do not count
-last-within : (w n k : ℕ) (b t : List ℕ) → k ≤ n → isLast (textsIn w k b) k t ≡ isLast (textsIn w n b) k t
+last-within : (u w n k : ℕ) (b t : List ℕ) → k ≤ n → isLast (textsIn u w k b) k t ≡ isLast (textsIn u w n b) k t
 unfolding isLast
-last-within w n zero b t h = refl
-last-within w n (suc k) b t h = rw (text-at w (suc k) b k (omega arith), text-at w n b k (omega arith))
+last-within u w n zero b t h = refl
+last-within u w n (suc k) b t h = rw (text-at u w (suc k) b k (omega arith), text-at u w n b k (omega arith))
 
 pub last-most : (copies : List (List ℕ)) (k : ℕ) (t : List ℕ) (s : ℕ) → s ≡ bump (isLast copies k t) 0 → s ≤ k
 unfolding isLast bump
@@ -85,68 +90,66 @@ lowered false k s e = rw e (omega (arith, lower-miss k))
 
 module _ (w n : ℕ) (lines : List ℕ) (v m : ℕ) (answers : List ℕ) where
   -- x is the line before the place i, and s its mark
-  pub pair-turn : (i k : ℕ) (ms : List ℕ) → Pairs (textsIn w n lines) (textsIn v m answers) i k ms → k ≤ m → 0 < i → i ≤ n → length ms ≡ n
-      → (x : List ℕ) → x ≡ partAt w (i - 1) lines → (s : ℕ) → s ≡ bump (isLast (textsIn v k answers) k (text x)) 0
-      → Pairs (textsIn w n lines) (textsIn v m answers) (i - 1) (k - s) (set ms (i - 1) s)
+  pub pair-turn : (i k : ℕ) (ms : List ℕ) → Pairs (textsIn w w n lines) (textsIn w v m answers) i k ms → k ≤ m → 0 < i → i ≤ n → length ms ≡ n
+      → (x : List ℕ) → x ≡ partAt w (i - 1) lines → (s : ℕ) → s ≡ bump (isLast (textsIn w v k answers) k (text w x)) 0
+      → Pairs (textsIn w w n lines) (textsIn w v m answers) (i - 1) (k - s) (set ms (i - 1) s)
   pair-turn i k ms p c z h l x q s e =
-      let r : Bool = isLast (textsIn v m answers) k (getD (textsIn w n lines) (i - 1) []) in
-      let f : s ≡ bump r 0 = e ∙ rw (text-at w n lines (i - 1) (omega arith), ← q, last-within v m k answers (text x) c) in
-      pairs-turn (textsIn w n lines) (textsIn v m answers) i k ms p (i - 1) (omega arith) (omega (arith, length-texts w n lines)) (omega arith) r refl (k - s) (lowered r k s f) (set ms (i - 1) s) (rw f)
+      let r : Bool = isLast (textsIn w v m answers) k (getD (textsIn w w n lines) (i - 1) []) in
+      let f : s ≡ bump r 0 = e ∙ rw (text-at w w n lines (i - 1) (omega arith), ← q, last-within w v m k answers (text w x) c) in
+      pairs-turn (textsIn w w n lines) (textsIn w v m answers) i k ms p (i - 1) (omega arith) (omega (arith, length-texts w w n lines)) (omega arith) r refl (k - s) (lowered r k s f) (set ms (i - 1) s) (rw f)
 
 -- ---- as many marks as lines
 
-length-marked : (h g ms : List ℕ) → ms ≡ paired (textsOf h) (copiesOf g) → length ms ≡ linesIn h
+length-marked : (h g ms : List ℕ) → ms ≡ paired (textsOf h) (copiesOf h g) → length ms ≡ linesIn h
 unfolding textsOf
-length-marked h g ms e = rw e (length-paired (copiesOf g) (map text (linesOf h)) ∙ length-map (linesOf h) text ∙ length-lines h)
+length-marked h g ms e = rw e (length-paired (copiesOf h g) (map (text (widthOf h)) (linesOf h)) ∙ length-map (linesOf h) (text (widthOf h)) ∙ length-lines h)
 
--- ---- the copies are the lines left: `lines` and `answers` are handed over, with room for m marks
+-- ---- the copies are the lines left: `lines`, their width and `answers` are handed over, with room for m marks
 
-module _ (h g lines answers : List ℕ) (m n : ℕ) (b : lines ≡ body h) (a : answers ≡ behindHead g) (k : n ≡ answersIn g) (sized : m ≡ linesIn h) where
-  pub pair-room : (m * lineLength ≤ length lines) × (n * answerLength ≤ length answers)
-  unfolding widthOf
-  pair-room = (rw (b, sized) (lines-room h), answers-room g answers n a k)
+module _ (h g lines answers : List ℕ) (w m n : ℕ) (b : lines ≡ body h) (d : w ≡ widthOf h) (a : answers ≡ behindHead g) (k : n ≡ answersIn h g) (sized : m ≡ linesIn h) where
+  pub pair-room : IsWidth w × ((m * w ≤ length lines) × (n * answerLength w ≤ length answers))
+  pair-room = (rw d (is-width h), (rw (b, d, sized) (lines-room h), answers-room h g answers (answerLength w) n a (ap answerLength d) k))
 
-  texts-are : textsIn lineLength m lines ≡ textsOf h
-  unfolding textsIn textsOf linesOf widthOf
-  texts-are = rw (b, sized)
+  texts-are : textsIn w w m lines ≡ textsOf h
+  unfolding textsIn textsOf linesOf
+  texts-are = rw (b, d, sized)
 
-  copies-are : textsIn answerLength n answers ≡ copiesOf g
+  copies-are : textsIn w (answerLength w) n answers ≡ copiesOf h g
   unfolding textsIn copiesOf
-  copies-are = rw (answers-are g answers n a k)
+  copies-are = rw (answers-are h g answers (answerLength w) n a (ap answerLength d) k, d)
 
-  -- ms are the marks, and w copies wait
-  module _ (w : ℕ) (ms : List ℕ)
-      (p : (w ≡ waiting (textsIn lineLength m lines) (textsIn answerLength n answers)) × (ms ≡ paired (textsIn lineLength m lines) (textsIn answerLength n answers))) where
-    pub marked : ms ≡ paired (textsOf h) (copiesOf g)
+  -- ms are the marks, and x copies wait
+  module _ (x : ℕ) (ms : List ℕ)
+      (p : (x ≡ waiting (textsIn w w m lines) (textsIn w (answerLength w) n answers)) × (ms ≡ paired (textsIn w w m lines) (textsIn w (answerLength w) n answers))) where
+    pub marked : ms ≡ paired (textsOf h) (copiesOf h g)
     marked = p .1 ∙ rw (texts-are, copies-are)
 
     -- r says whether the lines marked 0 are the first of their texts
-    pub are-copies : (r : Bool) → r ≡ firsts (textsIn lineLength (length ms) lines) ms → eqb w 0 && r ≡ copiesHold h g
+    pub are-copies : (r : Bool) → r ≡ firsts (textsIn w w (length ms) lines) ms → eqb x 0 && r ≡ copiesHold h g
     unfolding pairsUp
     are-copies r f =
         let e : length ms ≡ m = length-marked h g ms marked ∙ sym sized in
         rw (f, e, p .0, texts-are, copies-are, marked) (sym (copies-pair h g))
 
--- ---- and the lines taken hold: `lines` and `ms` are handed over
+-- ---- and the lines taken hold: `lines`, their width and `ms` are handed over
 
-module _ (h g lines ms : List ℕ) (b : lines ≡ body h) (e : ms ≡ paired (textsOf h) (copiesOf g)) where
-  pub marks-room : length ms * lineLength ≤ length lines
-  unfolding widthOf
-  marks-room = rw (b, length-marked h g ms e) (lines-room h)
+module _ (h g lines ms : List ℕ) (w : ℕ) (b : lines ≡ body h) (d : w ≡ widthOf h) (e : ms ≡ paired (textsOf h) (copiesOf h g)) where
+  pub marks-room : length ms * w ≤ length lines
+  marks-room = rw (b, d, length-marked h g ms e) (lines-room h)
 
   module _ (p : copiesHold h g ≡ true) where
     are-marks : ms ≡ marksOf h g
     are-marks = e ∙ pair-marks h g (sym (copies-pair h g) ∙ p)
 
-    are-taken : pick good ms (chop lineLength (length ms) lines) ≡ takenBy h g
-    unfolding takenBy linesOf widthOf
-    are-taken = rw (length-marked h g ms e, b, are-marks)
+    are-taken : pick good ms (chop w (length ms) lines) ≡ takenBy h g
+    unfolding takenBy linesOf
+    are-taken = rw (length-marked h g ms e, b, d, are-marks)
 
   -- c says whether the copies are the lines left, t counts the marks 0, and u, d and q are what the other tests said
-  pub all-hold : (c : Bool) → c ≡ copiesHold h g → (n : ℕ) → n ≡ answersIn g → (t : ℕ) → t ≡ tally good ms
+  pub all-hold : (c : Bool) → c ≡ copiesHold h g → (n : ℕ) → n ≡ answersIn h g → (t : ℕ) → t ≡ tally good ms
       → (u : Bool) → u ≡ eqb (number (takenOf g)) t && eqb (number (rejectedOf g)) n
-      → (d : Bool) → d ≡ distinct (map panOf (pick good ms (chop lineLength (length ms) lines)))
-      → (q : Bool) → q ≡ each (lineHolds h) (pick good ms (chop lineLength (length ms) lines))
+      → (d : Bool) → d ≡ distinct (map panOf (pick good ms (chop w (length ms) lines)))
+      → (q : Bool) → q ≡ each (lineHolds h) (pick good ms (chop w (length ms) lines))
       → c && u && d && q ≡ linesHold h g
   unfolding linesHold countsHold takenHold
   all-hold true ec n k t et u eu d ed q eq =

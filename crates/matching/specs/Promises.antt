@@ -10,4 +10,4 @@ use Rattle.receipts.specs.Receipt.{textsOf, copiesOf, linesHold}
 abbrev pub LinesHold : List ℕ → List ℕ → List ℕ → Bool → List ℕ → Type 0
 LinesHold h g _ r after =
     (r ≡ linesHold h g)
-    × (after ≡ paired (textsOf h) (copiesOf g))
+    × (after ≡ paired (textsOf h) (copiesOf h g))

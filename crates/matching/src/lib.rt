@@ -2,7 +2,7 @@
 ghost use mathlib.Core.Path.{_≡_};
 ghost use mathlib.Core.Bool.{_&&_};
 ghost use mathlib.Core.List.{map};
-ghost use Prim.Native.Nat.{_*_, _≤_};
+ghost use Prim.Native.Nat.{_+_, _*_, _≤_};
 ghost use lib.Dec.{eqb};
 ghost use lib.ListN.{length};
 ghost use Rattle.theory.specs.Same.{eqs};
@@ -14,7 +14,7 @@ ghost use Rattle.theory.specs.Distinct.{distinct};
 ghost use Rattle.numbers.specs.Number.{number};
 ghost use Rattle.columns.specs.Columns.{text, panOf};
 ghost use Rattle.hgv.specs.Layout.{linesIn};
-ghost use Rattle.sizes.specs.Sizes.{lineLength};
+ghost use Rattle.hgv.specs.laws.Layout.{IsWidth};
 ghost use Rattle.hgc.specs.Confirmation.{answerLength};
 ghost use Rattle.theory.specs.Firsts.{firsts};
 ghost use Rattle.pairing.specs.Backwards.{isLast, waiting, paired};
@@ -22,48 +22,38 @@ ghost use Rattle.receipts.specs.Receipt.{takenOf, rejectedOf, textsOf, copiesOf
 ghost use Rattle.matching.specs.laws.Texts.{textsIn};
 ghost use Rattle.matching.specs.Promises.{LinesHold};
 
-// Where the text and the PAN of an HGV's line stand.
-const TEXTS: keys::Keys = keys::Keys {
-    width: sizes::LINE,
-    from: hgc::places::TEXT_FROM,
-    to: hgc::places::TEXT_TO,
-};
-
-const PANS: keys::Keys = keys::Keys {
-    width: sizes::LINE,
-    from: columns::PAN_FROM,
-    to: columns::PAN_TO,
-};
-
 // Have two lines, of either file, one text. Nearly all lines differ in the PAN, and few bytes behind it tell them apart.
-fn have_same_text(a: &[u8], b: &[u8]) -> bool
-    ensures { λ r. ⌜ r ≡ eqs (text (now (a .entry))) (text (now (b .entry))) ⌝ }
+fn have_same_text(a: &[u8], b: &[u8], width: usize) -> bool
+    requires { ⌜ IsWidth width ⌝ }
+    ensures { λ r. ⌜ r ≡ eqs (text width (now (a .entry))) (text width (now (b .entry))) ⌝ }
 {
     let pan = texts::field(b, columns::PAN_FROM, columns::PAN_TO);
     if !texts::has_text(a, columns::PAN_FROM, columns::PAN_TO, pan) {
         return false;
     }
-    let text = texts::field(b, hgc::places::TEXT_FROM, hgc::places::TEXT_TO);
-    texts::has_text(a, hgc::places::TEXT_FROM, hgc::places::TEXT_TO, text)
+    let last = width - 1;
+    let text = texts::field(b, columns::TEXT_FROM, last);
+    texts::has_text(a, columns::TEXT_FROM, last, text)
 }
 
 // Has a line the text of the last of the first k copies.
-fn is_last(answers: &[u8], k: usize, l: &[u8]) -> bool
-    requires { ⌜ k * answerLength ≤ length (now answers) ⌝ }
-    ensures { λ r. ⌜ r ≡ isLast (textsIn answerLength k (now (answers .entry))) k (text (now (l .entry))) ⌝ }
+fn is_last(answers: &[u8], width: usize, k: usize, l: &[u8]) -> bool
+    requires { ⌜ IsWidth width × (k * answerLength width ≤ length (now answers)) ⌝ }
+    ensures { λ r. ⌜ r ≡ isLast (textsIn width (answerLength width) k (now (answers .entry))) k (text width (now (l .entry))) ⌝ }
 {
     if k == 0 {
         return false;
     }
-    have_same_text(l, texts::part(answers, receipts::LINE, k - 1))
+    let copy = texts::part(answers, width + sizes::REASON, k - 1);
+    have_same_text(l, copy, width)
 }
 
 // 1 where that line is paired with that copy, else 0.
-fn mark(answers: &[u8], k: usize, l: &[u8]) -> u8
-    requires { ⌜ k * answerLength ≤ length (now answers) ⌝ }
-    ensures { λ r. ⌜ r ≡ bump (isLast (textsIn answerLength k (now (answers .entry))) k (text (now (l .entry)))) 0 ⌝ }
+fn mark(answers: &[u8], width: usize, k: usize, l: &[u8]) -> u8
+    requires { ⌜ IsWidth width × (k * answerLength width ≤ length (now answers)) ⌝ }
+    ensures { λ r. ⌜ r ≡ bump (isLast (textsIn width (answerLength width) k (now (answers .entry))) k (text width (now (l .entry)))) 0 ⌝ }
 {
-    if is_last(answers, k, l) {
+    if is_last(answers, width, k, l) {
         return 1;
     }
     0
@@ -71,16 +61,18 @@ fn mark(answers: &[u8], k: usize, l: &[u8]) -> u8
 
 // From the last line to the first: a line that is the last copy not paired yet is paired with it, any other is not. How
 // many of the n copies wait at the end.
-fn pair(lines: &[u8], answers: &[u8], n: usize, marks: &mut [u8]) -> usize
-    requires { ⌜ (length (now marks) * lineLength ≤ length (now lines)) × (n * answerLength ≤ length (now answers)) ⌝ }
-    ensures left { λ r. ⌜ r ≡ waiting (textsIn lineLength (length (now (marks .entry))) (now (lines .entry))) (textsIn answerLength n (now (answers .entry))) ⌝ }
-    ensures marked { λ _. ⌜ now (marks .exit) ≡ paired (textsIn lineLength (length (now (marks .entry))) (now (lines .entry))) (textsIn answerLength n (now (answers .entry))) ⌝ }
+fn pair(lines: &[u8], width: usize, answers: &[u8], n: usize, marks: &mut [u8]) -> usize
+    requires wide { ⌜ IsWidth width ⌝ }
+    requires lined { ⌜ length (now marks) * width ≤ length (now lines) ⌝ }
+    requires answered { ⌜ n * answerLength width ≤ length (now answers) ⌝ }
+    ensures left { λ r. ⌜ r ≡ waiting (textsIn width width (length (now (marks .entry))) (now (lines .entry))) (textsIn width (answerLength width) n (now (answers .entry))) ⌝ }
+    ensures marked { λ _. ⌜ now (marks .exit) ≡ paired (textsIn width width (length (now (marks .entry))) (now (lines .entry))) (textsIn width (answerLength width) n (now (answers .entry))) ⌝ }
 {
     let mut k = n;
     let mut i = marks.len();
     while 0 < i {
         i -= 1;
-        let m = mark(answers, k, texts::part(lines, sizes::LINE, i));
+        let m = mark(answers, width, k, texts::part(lines, width, i));
         marks[i] = m;
         k = k - m as usize;
     }
@@ -88,19 +80,29 @@ fn pair(lines: &[u8], answers: &[u8], n: usize, marks: &mut [u8]) -> usize
 }
 
 // Is each line marked 0 the first of its text.
-fn are_firsts(lines: &[u8], marks: &[u8]) -> bool
-    requires { ⌜ length (now marks) * lineLength ≤ length (now lines) ⌝ }
-    ensures { λ r. ⌜ r ≡ firsts (textsIn lineLength (length (now (marks .entry))) (now (lines .entry))) (now (marks .entry)) ⌝ }
+fn are_firsts(lines: &[u8], width: usize, marks: &[u8]) -> bool
+    requires { ⌜ IsWidth width × (length (now marks) * width ≤ length (now lines)) ⌝ }
+    ensures { λ r. ⌜ r ≡ firsts (textsIn width width (length (now (marks .entry))) (now (lines .entry))) (now (marks .entry)) ⌝ }
 {
-    ordering::are_firsts(lines, TEXTS, marks)
+    let texts = keys::Keys {
+        width,
+        from: columns::TEXT_FROM,
+        to: width - 1,
+    };
+    ordering::are_firsts(lines, texts, marks)
 }
 
 // Have no two lines marked 0 one PAN.
-fn are_apart(lines: &[u8], marks: &[u8]) -> bool
-    requires { ⌜ length (now marks) * lineLength ≤ length (now lines) ⌝ }
-    ensures { λ r. ⌜ r ≡ distinct (map panOf (pick good (now (marks .entry)) (chop lineLength (length (now (marks .entry))) (now (lines .entry))))) ⌝ }
+fn are_apart(lines: &[u8], width: usize, marks: &[u8]) -> bool
+    requires { ⌜ length (now marks) * width ≤ length (now lines) ⌝ }
+    ensures { λ r. ⌜ r ≡ distinct (map panOf (pick good (now (marks .entry)) (chop width (length (now (marks .entry))) (now (lines .entry))))) ⌝ }
 {
-    ordering::are_apart(lines, PANS, marks)
+    let pans = keys::Keys {
+        width,
+        from: columns::PAN_FROM,
+        to: columns::PAN_TO,
+    };
+    ordering::are_apart(lines, pans, marks)
 }
 
 // Has a line the sender for its actor, and keeps it L1, L5 to L10.
@@ -112,13 +114,13 @@ fn line_holds(hgv: &[u8], l: &[u8]) -> bool
 }
 
 // Does each line marked 0 hold.
-fn each_holds(hgv: &[u8], lines: &[u8], marks: &[u8]) -> bool
-    requires { ⌜ length (now marks) * lineLength ≤ length (now lines) ⌝ }
-    ensures { λ r. ⌜ r ≡ each (lineHolds (now (hgv .entry))) (pick good (now (marks .entry)) (chop lineLength (length (now (marks .entry))) (now (lines .entry)))) ⌝ }
+fn each_holds(hgv: &[u8], lines: &[u8], width: usize, marks: &[u8]) -> bool
+    requires { ⌜ length (now marks) * width ≤ length (now lines) ⌝ }
+    ensures { λ r. ⌜ r ≡ each (lineHolds (now (hgv .entry))) (pick good (now (marks .entry)) (chop width (length (now (marks .entry))) (now (lines .entry)))) ⌝ }
 {
     let mut i: usize = 0;
     while i < marks.len() {
-        let holds = line_holds(hgv, texts::part(lines, sizes::LINE, i));
+        let holds = line_holds(hgv, texts::part(lines, width, i));
         if (marks[i] == 0) & !holds {
             return false;
         }
@@ -140,12 +142,13 @@ fn has_counts(hgc: &[u8], taken: u64, rejected: usize) -> bool
 fn copies_hold(hgv: &[u8], hgc: &[u8], marks: &mut [u8]) -> bool
     requires { ⌜ length (now marks) ≡ linesIn (now hgv) ⌝ }
     ensures holding { λ r. ⌜ r ≡ copiesHold (now (hgv .entry)) (now (hgc .entry)) ⌝ }
-    ensures marked { λ _. ⌜ now (marks .exit) ≡ paired (textsOf (now (hgv .entry))) (copiesOf (now (hgc .entry))) ⌝ }
+    ensures marked { λ _. ⌜ now (marks .exit) ≡ paired (textsOf (now (hgv .entry))) (copiesOf (now (hgv .entry)) (now (hgc .entry))) ⌝ }
 {
     let lines = hgv::body(hgv);
-    let n = receipts::answers_in(hgc);
-    let waiting = pair(lines, receipts::answers(hgc), n, marks);
-    (waiting == 0) & are_firsts(lines, marks)
+    let width = hgv::width(hgv);
+    let n = receipts::answers_in(hgv, hgc);
+    let waiting = pair(lines, width, receipts::answers(hgc), n, marks);
+    (waiting == 0) & are_firsts(lines, width, marks)
 }
 
 // Do the HGC's lines hold beside the HGV's. `marks` has 0 for each line that was taken, where they do.
@@ -155,8 +158,13 @@ pub fn lines_hold(hgv: &[u8], hgc: &[u8], marks: &mut [u8]) -> bool
 {
     let copied = copies_hold(hgv, hgc, marks);
     let lines = hgv::body(hgv);
+    let width = hgv::width(hgv);
     copied
-        & has_counts(hgc, taken::count_taken(marks), receipts::answers_in(hgc))
-        & are_apart(lines, marks)
-        & each_holds(hgv, lines, marks)
+        & has_counts(
+            hgc,
+            taken::count_taken(marks),
+            receipts::answers_in(hgv, hgc),
+        )
+        & are_apart(lines, width, marks)
+        & each_holds(hgv, lines, width, marks)
 }

@@ -7,9 +7,9 @@ use Rattle.receipts.specs.Receipt.{answersIn, takenBy}
 use Rattle.provider.specs.declared.Counted.{Counted}
 
 -- a stop has zero counts
-unfoldable pub refusal : ℕ → Counted
-refusal number = record { number = number; taken = 0; rejected = 0 }
+unfoldable pub stopCounts : ℕ → Counted
+stopCounts number = record { number = number; taken = 0; rejected = 0 }
 
 -- success has 0 and the two counts
-unfoldable pub counted : List ℕ → List ℕ → Counted
-counted h g = record { number = 0; taken = length (takenBy h g); rejected = answersIn g }
+unfoldable pub successCounts : List ℕ → List ℕ → Counted
+successCounts h g = record { number = 0; taken = length (takenBy h g); rejected = answersIn h g }

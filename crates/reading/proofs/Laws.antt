@@ -1,11 +1,12 @@
 -- What the functions of this crate cite. Assumes nothing.
 use mathlib.Core.Path.{_≡_, refl, sym, ap, _∙_}
 use mathlib.Core.Bool.{Bool, true, false, _||_, false≢true}
-use mathlib.Core.List.{List, []}
-use Prim.Native.Nat.{ℕ, zero, suc, _+_, _*_, _≤_, _<_}
+use mathlib.Core.List.{List, [], map}
+use Prim.Native.Nat.{ℕ, zero, suc, _+_, _*_, _-_, _≤_, _<_}
 use native.Mathlib.Omega.{arith}
 use lib.Dec.{leb}
 use lib.ListN.{length, getD, List·getD-map}
+use lib.Seq.{take-nil, drop-nil}
 use borrow.Author.Tests.{leb-true}
 use Rattle.theory.specs.Text.{bytes}
 use Rattle.theory.specs.Same.{eqs, mem}
@@ -21,6 +22,7 @@ use Rattle.theory.specs.laws.Join.{getD-chop}
 use Rattle.theory.specs.Pick.{bad}
 use Rattle.texts.specs.Field.{field, listed}
 use Rattle.numbers.specs.Number.{numberAfter, number}
+use Rattle.hgv.specs.Layout.{widthOf}
 use Rattle.hgc.specs.Confirmation.{answerLength}
 use Rattle.pairing.specs.laws.Telling.{toldAt, told-left}
 use Rattle.receipts.specs.Receipt.{answersIn, behindHead, answersOf, reasonOf, reasonHolds}
@@ -39,32 +41,38 @@ one-of {p} t (more {x = x} {xs = xs} k ks) h = go (eqs t x) refl h (λ i. one-of
     go false e i ih = ih i
 
 -- none that an HGC may name is above 12
-reason-most : (a : List ℕ) → reasonHolds a ≡ true → number (reasonOf a) ≤ 12
+reason-most : (w : ℕ) (a : List ℕ) → reasonHolds w a ≡ true → number (reasonOf w a) ≤ 12
 unfolding reasonHolds listed chop each number numberAfter
-reason-most a h = leb-true (number (reasonOf a)) 12 (one-of (reasonOf a) (each-passes (λ t. leb (number t) 12) (chop 2 9 (bytes "010203040506080912")) few) h)
+reason-most w a h = leb-true (number (reasonOf w a)) 12 (one-of (reasonOf w a) (each-passes (λ t. leb (number t) 12) (chop 2 9 (bytes "010203040506080912")) few) h)
   where
     few : each (λ t. leb (number t) 12) (chop 2 9 (bytes "010203040506080912")) ≡ true
     few = refl
 
+reason-none : (w : ℕ) → number (reasonOf w []) ≡ 0
+unfolding field number numberAfter
+reason-none w = rw (drop-nil {A = ℕ} (w - 1), take-nil {A = ℕ} (w + 1 + 1 - w))
+
 -- the line at the place k, as the code has it
-module _ (g lines : List ℕ) (e : lines ≡ behindHead g) (k : ℕ) (l : k < answersIn g) where
-  pub line-fits : k * answerLength + answerLength ≤ length lines
-  line-fits = part-fits answerLength (answersIn g) k (length lines) (answers-room g lines (answersIn g) e refl) l
+module _ (h g lines : List ℕ) (e : lines ≡ behindHead g) (v : ℕ) (d : v ≡ answerLength (widthOf h)) (k : ℕ) (l : k < answersIn h g) where
+  pub line-fits : k * v + v ≤ length lines
+  line-fits = part-fits v (answersIn h g) k (length lines) (answers-room h g lines v (answersIn h g) e d refl) l
 
-  module _ (a f : List ℕ) (ea : a ≡ partAt answerLength k lines) (ef : f ≡ field 128 129 a) (n : ℕ) (en : n ≡ number f) where
-    line-is : a ≡ getD (answersOf g) k []
-    line-is = ea ∙ sym (rw (← answers-are g lines (answersIn g) e refl) (getD-chop answerLength (answersIn g) lines k l))
+  module _ (a f : List ℕ) (w : ℕ) (ea : a ≡ partAt v k lines) (ew : w ≡ widthOf h) (ef : f ≡ field w (w + 2 - 1) a) (n : ℕ) (en : n ≡ number f) where
+    line-is : a ≡ getD (answersOf h g) k []
+    line-is = ea ∙ sym (rw (← answers-are h g lines v (answersIn h g) e d refl) (getD-chop v (answersIn h g) lines k l))
 
-    value : n ≡ number (reasonOf (getD (answersOf g) k []))
-    value = en ∙ ap number (ef ∙ ap (field 128 129) line-is)
+    value : n ≡ number (reasonOf (widthOf h) (getD (answersOf h g) k []))
+    value = let z : widthOf h + 2 - 1 ≡ widthOf h + 1 = omega arith in en ∙ ap number (ef ∙ rw (line-is, ew, z))
 
-    pub reason-fits : each reasonHolds (answersOf g) ≡ true → n ≤ 12
+    pub reason-fits : each (reasonHolds (widthOf h)) (answersOf h g) ≡ true → n ≤ 12
     unfolding answersOf
-    reason-fits h = rw value (reason-most _ (each-at (each-passes reasonHolds (answersOf g) h) k [] (omega (arith, length-chop answerLength (answersIn g) (behindHead g)))))
+    reason-fits q = rw value (reason-most _ _ (each-at (each-passes (reasonHolds (widthOf h)) (answersOf h g) q) k [] (omega (arith, length-chop (answerLength (widthOf h)) (answersIn h g) (behindHead g)))))
 
-    pub reason-told : (m : ℕ) → (m ≡ 0 → ⊥) → n ≡ toldAt m (reasonsOf g) k
-    unfolding reasonsOf number numberAfter field
-    reason-told m z = value ∙ sym (told-left m (reasonsOf g) k z ∙ List·getD-map (λ a. number (reasonOf a)) (answersOf g) k [])
+    pub reason-told : (m : ℕ) → (m ≡ 0 → ⊥) → n ≡ toldAt m (reasonsOf h g) k
+    unfolding reasonsOf
+    reason-told m z =
+        let f : List ℕ → ℕ = λ a. number (reasonOf (widthOf h) a) in
+        value ∙ sym (told-left m (reasonsOf h g) k z ∙ ap (λ (x : ℕ). getD (map f (answersOf h g)) k x) (sym (reason-none (widthOf h))) ∙ List·getD-map f (answersOf h g) k [])
 
 -- ---- the mark of a line that is left
 

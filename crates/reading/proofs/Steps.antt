@@ -15,32 +15,32 @@ use Rattle.pairing.specs.Pairing.{told}
 use Rattle.pairing.specs.Backwards.{paired}
 use Rattle.receipts.specs.Receipt.{textsOf, copiesOf, receiptHolds}
 use Rattle.provider.specs.declared.Counted.{Counted}
-use Rattle.provider.specs.Answer.{refusal, counted}
-use Rattle.reading.specs.ReadBack.{reasonsOf, readVerdicts, fileStops, readAnswer, toldTo, verdictsAfter}
+use Rattle.provider.specs.Answer.{stopCounts, successCounts}
+use Rattle.reading.specs.ReadBack.{reasonsOf, readVerdicts, hgvStops, readAnswer, verdictsWritten, verdictsAfter}
 use Rattle.reading.specs.laws.Numbers.{file-sized, read-52, read-53, read-done, read-refused, verdicts-stay, read-counted, verdicts-told}
 use Rattle.provider.specs.laws.Held.{holds, marks-fit, marks-each}
 
 -- n lines have room in a block for the most that there may be
-pub file-most : (h : List ℕ) (s : ℕ) → s ≡ first (fileStops h) → s ≡ 0 → (n : ℕ) → n ≡ linesIn h → n ≤ linesMost
+pub file-most : (h : List ℕ) (s : ℕ) → s ≡ first (hgvStops h) → s ≡ 0 → (n : ℕ) → n ≡ linesIn h → n ≤ linesMost
 file-most h s e z n f = rw f (lines-most h (file-sized h (sym e ∙ z)))
 
-module _ (h g block : List ℕ) (z : first (fileStops h) ≡ 0) (r : Bool) (er : r ≡ receiptHolds h g) where
+module _ (h g block : List ℕ) (z : first (hgvStops h) ≡ 0) (r : Bool) (er : r ≡ receiptHolds h g) where
   -- 52
-  pub read-not : not r ≡ true → (a : Counted) → a ≡ refusal 52 → (a ≡ readAnswer h g block) × (block ≡ verdictsAfter h g block)
+  pub read-not : not r ≡ true → (a : Counted) → a ≡ stopCounts 52 → (a ≡ readAnswer h g block) × (block ≡ verdictsAfter h g block)
   read-not k a e =
       let n = read-52 h g block z (sym er ∙ not-true r k) in
       (e ∙ read-refused h g block 52 n (λ i. omega arith), verdicts-stay h g block 52 n (λ i. omega arith))
 
-  module _ (k : not r ≡ false) (ms : List ℕ) (em : ms ≡ paired (textsOf h) (copiesOf g)) where
+  module _ (k : not r ≡ false) (ms : List ℕ) (em : ms ≡ paired (textsOf h) (copiesOf h g)) where
     -- 53
-    pub read-short : length block < length ms → (a : Counted) → a ≡ refusal 53 → (a ≡ readAnswer h g block) × (block ≡ verdictsAfter h g block)
+    pub read-short : length block < length ms → (a : Counted) → a ≡ stopCounts 53 → (a ≡ readAnswer h g block) × (block ≡ verdictsAfter h g block)
     read-short l a e =
         let n = read-53 h g block z (holds h g r er k) (omega (arith, marks-each h g r er k ms em)) in
         (e ∙ read-refused h g block 53 n (λ i. omega arith), verdicts-stay h g block 53 n (λ i. omega arith))
 
-    pub read-whole : length ms ≤ length block → (a : Counted) → a ≡ counted h g → (b : List ℕ) → b ≡ told ms (reasonsOf g) ++ drop (length ms) block
+    pub read-whole : length ms ≤ length block → (a : Counted) → a ≡ successCounts h g → (b : List ℕ) → b ≡ told ms (reasonsOf h g) ++ drop (length ms) block
         → (a ≡ readAnswer h g block) × (b ≡ verdictsAfter h g block)
-    unfolding toldTo readVerdicts
+    unfolding verdictsWritten readVerdicts
     read-whole l a e b f =
         let m = marks-each h g r er k ms em in
         let n = read-done h g block z (holds h g r er k) (omega arith) in

@@ -7,7 +7,7 @@ use lib.Dec.{ltb}
 use lib.ListN.{length, drop}
 use Rattle.theory.specs.First.{Rule, _if_, first}
 use Rattle.theory.specs.Stopped.{unlessStopped}
-use Rattle.hgv.specs.Layout.{linesIn, lengthHolds}
+use Rattle.hgv.specs.Layout.{widthOf, linesIn, lengthHolds}
 use Rattle.frames.specs.Frames.{footerHolds, framesHold}
 use Rattle.header.specs.Header.{headerHolds}
 use Rattle.claims.specs.Claims.{versionHolds, receiverHolds, countHolds}
@@ -15,19 +15,19 @@ use Rattle.numbers.specs.Number.{number}
 use Rattle.pairing.specs.Pairing.{told}
 use Rattle.receipts.specs.Receipt.{answersOf, reasonOf, marksOf, receiptHolds}
 use Rattle.provider.specs.declared.Counted.{Counted}
-use Rattle.provider.specs.Answer.{refusal, counted}
+use Rattle.provider.specs.Answer.{stopCounts, successCounts}
 
 -- the reasons as numbers
-unfoldable pub reasonsOf : List ℕ → List ℕ
-reasonsOf g = map (λ a. number (reasonOf a)) (answersOf g)
+unfoldable pub reasonsOf : List ℕ → List ℕ → List ℕ
+reasonsOf h g = map (λ a. number (reasonOf (widthOf h) a)) (answersOf h g)
 
 -- for each HGV line, in file order, 0 if taken, else the reason
 unfoldable pub readVerdicts : List ℕ → List ℕ → List ℕ
-readVerdicts h g = told (marksOf h g) (reasonsOf g)
+readVerdicts h g = told (marksOf h g) (reasonsOf h g)
 
 -- 25 to 27, 29 (receiver only), 30 to 32
-unfoldable pub fileStops : List ℕ → List Rule
-fileStops h =
+unfoldable pub hgvStops : List ℕ → List Rule
+hgvStops h =
     (25 if not (lengthHolds h))
     ∷ (26 if not (headerHolds h))
     ∷ (27 if not (versionHolds h))
@@ -43,14 +43,14 @@ blockStops h g block = (52 if not (receiptHolds h g)) ∷ (53 if ltb (length blo
 
 -- the number answered: the first that holds, 0 for success
 unfoldable pub readNumber : List ℕ → List ℕ → List ℕ → ℕ
-readNumber h g block = first (fileStops h ++ blockStops h g block)
+readNumber h g block = first (hgvStops h ++ blockStops h g block)
 
 unfoldable pub readAnswer : List ℕ → List ℕ → List ℕ → Counted
-readAnswer h g block = let n : ℕ = readNumber h g block in unlessStopped n (counted h g) (refusal n)
+readAnswer h g block = let n : ℕ = readNumber h g block in unlessStopped n (successCounts h g) (stopCounts n)
 
 -- a byte for each HGV line, in file order; bytes behind the n-th stay
-unfoldable pub toldTo : List ℕ → List ℕ → List ℕ → List ℕ
-toldTo h g block = readVerdicts h g ++ drop (linesIn h) block
+unfoldable pub verdictsWritten : List ℕ → List ℕ → List ℕ → List ℕ
+verdictsWritten h g block = readVerdicts h g ++ drop (linesIn h) block
 
 unfoldable pub verdictsAfter : List ℕ → List ℕ → List ℕ → List ℕ
-verdictsAfter h g block = unlessStopped (readNumber h g block) (toldTo h g block) block
+verdictsAfter h g block = unlessStopped (readNumber h g block) (verdictsWritten h g block) block

@@ -1,5 +1,4 @@
 // An HGC read back beside its HGV: which lines were taken, and the reasons of the others.
-use hgc::places;
 ghost use mathlib.Core.Path.{_≡_};
 ghost use mathlib.Core.Bool.{true};
 ghost use mathlib.Core.List.{_++_};
@@ -10,16 +9,16 @@ ghost use Rattle.theory.specs.Count.{bump};
 ghost use Rattle.theory.specs.Walk.{each};
 ghost use Rattle.theory.specs.Pick.{bad};
 ghost use Rattle.theory.specs.Tally.{tally};
-ghost use Rattle.hgv.specs.Layout.{linesIn};
+ghost use Rattle.hgv.specs.Layout.{widthOf, linesIn};
 ghost use Rattle.pairing.specs.Pairing.{told};
 ghost use Rattle.pairing.specs.laws.Telling.{toldAt};
 ghost use Rattle.receipts.specs.Receipt.{answersIn, answersOf, reasonHolds};
-ghost use Rattle.reading.specs.ReadBack.{reasonsOf, fileStops};
+ghost use Rattle.reading.specs.ReadBack.{reasonsOf, hgvStops};
 ghost use Rattle.reading.specs.Promises.{ReadBack};
 
 // The stops that look at the HGV alone.
 fn file_stop(hgv: &[u8]) -> u64
-    ensures { λ r. ⌜ r ≡ first (fileStops (now (hgv .entry))) ⌝ }
+    ensures { λ r. ⌜ r ≡ first (hgvStops (now (hgv .entry))) ⌝ }
 {
     let s32 = rules::first(!frames::has_frames(hgv), 32, 0);
     let s31 = rules::first(!frames::has_footer(hgv), 31, s32);
@@ -41,29 +40,29 @@ fn left(mark: u8) -> usize
 }
 
 // The verdict of a line with this mark, in front of which k lines are left.
-fn verdict_at(hgc: &[u8], k: usize, mark: u8) -> u8
-    requires { ⌜ (each reasonHolds (answersOf (now hgc)) ≡ true) × ((mark ≡ 0 → ⊥) → k < answersIn (now hgc)) ⌝ }
-    ensures { λ r. ⌜ r ≡ toldAt mark (reasonsOf (now (hgc .entry))) k ⌝ }
+fn verdict_at(hgv: &[u8], hgc: &[u8], k: usize, mark: u8) -> u8
+    requires { ⌜ (each (reasonHolds (widthOf (now hgv))) (answersOf (now hgv) (now hgc)) ≡ true) × ((mark ≡ 0 → ⊥) → k < answersIn (now hgv) (now hgc)) ⌝ }
+    ensures { λ r. ⌜ r ≡ toldAt mark (reasonsOf (now (hgv .entry)) (now (hgc .entry))) k ⌝ }
 {
     if mark == 0 {
         return 0;
     }
-    let a = texts::part(receipts::answers(hgc), receipts::LINE, k);
-    let reason = texts::field(a, places::REASON_FROM, places::REASON_TO);
-    numbers::number(reason) as u8
+    let a = texts::part(receipts::answers(hgc), receipts::width(hgv), k);
+    let from = hgv::width(hgv);
+    numbers::number(texts::field(a, from, from + sizes::REASON - 1)) as u8
 }
 
 // A verdict for each line, in front of the block; what lies behind them stays as it was.
-fn tell(hgc: &[u8], marks: &[u8], verdicts: &mut [u8])
+fn tell(hgv: &[u8], hgc: &[u8], marks: &[u8], verdicts: &mut [u8])
     requires room { ⌜ length (now marks) ≤ length (now verdicts) ⌝ }
-    requires reasoned { ⌜ each reasonHolds (answersOf (now hgc)) ≡ true ⌝ }
-    requires answered { ⌜ tally bad (now marks) ≤ answersIn (now hgc) ⌝ }
-    ensures { λ _. ⌜ now (verdicts .exit) ≡ told (now (marks .entry)) (reasonsOf (now (hgc .entry))) ++ drop (length (now (marks .entry))) (now (verdicts .entry)) ⌝ }
+    requires reasoned { ⌜ each (reasonHolds (widthOf (now hgv))) (answersOf (now hgv) (now hgc)) ≡ true ⌝ }
+    requires answered { ⌜ tally bad (now marks) ≤ answersIn (now hgv) (now hgc) ⌝ }
+    ensures { λ _. ⌜ now (verdicts .exit) ≡ told (now (marks .entry)) (reasonsOf (now (hgv .entry)) (now (hgc .entry))) ++ drop (length (now (marks .entry))) (now (verdicts .entry)) ⌝ }
 {
     let mut k: usize = 0;
     let mut i: usize = 0;
     while i < marks.len() {
-        let v = verdict_at(hgc, k, marks[i]);
+        let v = verdict_at(hgv, hgc, k, marks[i]);
         verdicts[i] = v;
         k = k + left(marks[i]);
         i += 1;
@@ -72,7 +71,7 @@ fn tell(hgc: &[u8], marks: &[u8], verdicts: &mut [u8])
 
 // What is read beside an HGV whose form is right; `marks` has a byte for each of its lines.
 fn read_lines(hgv: &[u8], hgc: &[u8], verdicts: &mut [u8], marks: &mut [u8]) -> provider::Counted
-    requires { ⌜ (first (fileStops (now hgv)) ≡ 0) × (length (now marks) ≡ linesIn (now hgv)) ⌝ }
+    requires { ⌜ (first (hgvStops (now hgv)) ≡ 0) × (length (now marks) ≡ linesIn (now hgv)) ⌝ }
     ensures { λ r. ⌜ ReadBack (now (hgv .entry)) (now (hgc .entry)) (now (verdicts .entry)) r (now (verdicts .exit)) ⌝ }
 {
     if !provider::is_receipt(hgv, hgc, marks) {
@@ -81,7 +80,7 @@ fn read_lines(hgv: &[u8], hgc: &[u8], verdicts: &mut [u8], marks: &mut [u8]) -> 
     if verdicts.len() < marks.len() {
         return provider::refused(53);
     }
-    tell(hgc, marks, verdicts);
+    tell(hgv, hgc, marks, verdicts);
     provider::count(hgv, hgc, marks)
 }
 

@@ -2,8 +2,9 @@
 use mathlib.Core.Path.{_≡_, refl, sym, _∙_}
 use mathlib.Core.Bool.{Bool, true, false, _&&_}
 use mathlib.Core.List.{List, [], _∷_}
-use Prim.Native.Nat.{ℕ, zero, suc, _-_, _%_, _<_, _≤_}
+use Prim.Native.Nat.{ℕ, zero, suc, _-_, _/_, _%_, _<_, _≤_}
 use native.Mathlib.Omega.{arith}
+use native.Mathlib.Nat.{zero-div}
 use lib.Dec.{eqb}
 use lib.ListN.{length, take, drop, length-drop, drop-of-length-le}
 use lib.Seq.{take-all}
@@ -13,6 +14,7 @@ use Rattle.theory.specs.Text.{bytes}
 use Rattle.theory.specs.Same.{eqs}
 use Rattle.theory.specs.Walk.{each}
 use Rattle.texts.specs.Field.{field}
+use Rattle.hgv.specs.Layout.{widthOf}
 use Rattle.hgc.specs.Confirmation.{answerLength, outcome}
 use Rattle.sizes.specs.Sizes.{hgcHeaderLength}
 use Rattle.times.specs.Time.{realTime}
@@ -43,25 +45,30 @@ module _ (g : List ℕ) where
   unfolding behindHead
   lines-lent = take-all (length g - hgcHeaderLength) (drop hgcHeaderLength g) (rw length-drop (omega arith))
 
+module _ (h g : List ℕ) where
   -- a text too short for header and footer
-  pub answers-short : length g < bareLength → 0 ≡ answersIn g
+  pub answers-short : length g < bareLength → 0 ≡ answersIn h g
   unfolding answersIn
-  answers-short l = omega arith
+  answers-short l = let z : length g - bareLength ≡ 0 = omega arith in sym (rw (z, zero-div (answerLength (widthOf h))))
 
-  pub length-short : length g < bareLength → false ≡ lengthForm g
+  pub answers-long : (w : ℕ) → w ≡ answerLength (widthOf h) → (length g - bareLength) / w ≡ answersIn h g
+  unfolding answersIn
+  answers-long w e = rw e
+
+  pub length-short : length g < bareLength → false ≡ lengthForm h g
   unfolding lengthForm
   length-short l = sym (rw (lt-leb bareLength (length g) (omega arith)))
 
-  pub length-long : bareLength ≤ length g → eqb ((length g - bareLength) % answerLength) 0 ≡ lengthForm g
+  pub length-long : (w : ℕ) → w ≡ answerLength (widthOf h) → bareLength ≤ length g → eqb ((length g - bareLength) % w) 0 ≡ lengthForm h g
   unfolding lengthForm
-  length-long l = sym (rw (le-leb bareLength (length g) l))
+  length-long w e l = sym (rw (le-leb bareLength (length g) l, e))
 
   -- `00` or `01`
-  pub outcome-none : (n : ℕ) → n ≡ answersIn g → n ≡ 0 → (r : Bool) → r ≡ eqs (field 108 109 g) (bytes "00") → r ≡ outcomeHolds g
+  pub outcome-none : (n : ℕ) → n ≡ answersIn h g → n ≡ 0 → (r : Bool) → r ≡ eqs (field 108 109 g) (bytes "00") → r ≡ outcomeHolds h g
   unfolding outcomeHolds outcome
   outcome-none n a e r q = q ∙ rw (← a, e)
 
-  pub outcome-some : (n : ℕ) → n ≡ answersIn g → (n ≡ 0 → ⊥) → (r : Bool) → r ≡ eqs (field 108 109 g) (bytes "01") → r ≡ outcomeHolds g
+  pub outcome-some : (n : ℕ) → n ≡ answersIn h g → (n ≡ 0 → ⊥) → (r : Bool) → r ≡ eqs (field 108 109 g) (bytes "01") → r ≡ outcomeHolds h g
   unfolding outcomeHolds outcome
   outcome-some zero a z r q = absurd (z refl)
   outcome-some (suc n) a z r q = q ∙ rw (← a)
@@ -86,9 +93,9 @@ order true true false r f n t o = refl
 order true true true true f n t o = sym (and-true (((f && n) && t) && o))
 order true true true false f n t o = sym (and-none (((f && n) && t) && o) false refl)
 
-pub says-is : (h g : List ℕ) (l d e f n t o : Bool) → l ≡ lengthForm g → d ≡ headForm g → e ≡ each (λ a. answerForm a && reasonHolds a) (answersOf g) → f ≡ footerHolds g
-    → n ≡ namesHold h g → t ≡ realTime (receptionOf g) → o ≡ outcomeHolds g → (((((l && d) && e) && f) && n) && t) && o ≡ saysHold h g
+pub says-is : (h g : List ℕ) (l d e f n t o : Bool) → l ≡ lengthForm h g → d ≡ headForm g → e ≡ each (λ a. answerForm (widthOf h) a && reasonHolds (widthOf h) a) (answersOf h g) → f ≡ footerHolds g
+    → n ≡ namesHold h g → t ≡ realTime (receptionOf g) → o ≡ outcomeHolds h g → (((((l && d) && e) && f) && n) && t) && o ≡ saysHold h g
 unfolding saysHold formHolds
 says-is h g l d e f n t o l′ d′ e′ f′ n′ t′ o′ =
-    rw (l′, d′, e′, each-two answerForm reasonHolds (answersOf g), f′, n′, t′, o′)
-    (order (lengthForm g) (headForm g) (each answerForm (answersOf g)) (each reasonHolds (answersOf g)) (footerHolds g) (namesHold h g) (realTime (receptionOf g)) (outcomeHolds g))
+    rw (l′, d′, e′, each-two (answerForm (widthOf h)) (reasonHolds (widthOf h)) (answersOf h g), f′, n′, t′, o′)
+    (order (lengthForm h g) (headForm g) (each (answerForm (widthOf h)) (answersOf h g)) (each (reasonHolds (widthOf h)) (answersOf h g)) (footerHolds g) (namesHold h g) (realTime (receptionOf g)) (outcomeHolds h g))

@@ -3,10 +3,16 @@ use mathlib.Core.Path.{_≡_}
 use mathlib.Core.Bool.{Bool}
 use mathlib.Core.List.{List}
 use Prim.Native.Nat.{ℕ}
+use Rattle.hgv.specs.Layout.{widthOf}
+use Rattle.hgc.specs.Confirmation.{answerLength}
 use Rattle.receipts.specs.Receipt.{answersIn, behindHead, receptionOf, saysHold}
 
-abbrev pub AnswersIn : List ℕ → ℕ → Type 0
-AnswersIn g r = r ≡ answersIn g
+-- of a line of the HGC to this HGV
+abbrev pub Width : List ℕ → ℕ → Type 0
+Width h r = r ≡ answerLength (widthOf h)
+
+abbrev pub AnswersIn : List ℕ → List ℕ → ℕ → Type 0
+AnswersIn h g r = r ≡ answersIn h g
 
 -- its lines, and what stands behind them
 abbrev pub Answers : List ℕ → List ℕ → Type 0

@@ -1,5 +1,5 @@
 -- The HGC beside its HGV, as a provider reads it: its form, and its lines against the HGV's, clause by clause as the
--- definition lists them under 52. h is the HGV, g the HGC. Assumes nothing.
+-- definition lists them under 52. h is the HGV, g the HGC, w the width of the HGV's lines. Assumes nothing.
 use Prim.Native.Nat.{ℕ, _+_, _-_, _/_, _%_}
 use mathlib.Core.Bool.{Bool, true, false, _&&_}
 use mathlib.Core.List.{List, [], _∷_, map}
@@ -19,7 +19,7 @@ use Rattle.times.specs.Time.{realTime}
 use Rattle.columns.specs.Columns.{text, panOf}
 use Rattle.lines.specs.Rules.{recordHolds}
 use Rattle.slots.specs.Search.{ofActor}
-use Rattle.hgv.specs.Layout.{linesOf}
+use Rattle.hgv.specs.Layout.{widthOf, linesOf}
 use Rattle.sizes.specs.Sizes.{footerLength, hgcHeaderLength}
 use Rattle.frames.specs.Frames.{footerHolds}
 use Rattle.header.specs.Header.{sender, listSequence}
@@ -33,15 +33,15 @@ abbrev pub bareLength : ℕ
 bareLength = hgcHeaderLength + footerLength
 
 -- the number of its lines, r
-unfoldable pub answersIn : List ℕ → ℕ
-answersIn g = (length g - bareLength) / answerLength
+unfoldable pub answersIn : List ℕ → List ℕ → ℕ
+answersIn h g = (length g - bareLength) / answerLength (widthOf h)
 
 -- what stands behind the header: its lines, and the footer
 unfoldable pub behindHead : List ℕ → List ℕ
 behindHead g = drop hgcHeaderLength g
 
-unfoldable pub answersOf : List ℕ → List (List ℕ)
-answersOf g = chop answerLength (answersIn g) (behindHead g)
+unfoldable pub answersOf : List ℕ → List ℕ → List (List ℕ)
+answersOf h g = chop (answerLength (widthOf h)) (answersIn h g) (behindHead g)
 
 abbrev pub receptionOf : List ℕ → List ℕ
 receptionOf g = field 33 46 g
@@ -52,14 +52,15 @@ takenOf g = field 47 61 g
 abbrev pub rejectedOf : List ℕ → List ℕ
 rejectedOf g = field 62 76 g
 
-abbrev pub reasonOf : List ℕ → List ℕ
-reasonOf a = field 128 129 a
+-- 128-129 where the HGV's lines have 128
+abbrev pub reasonOf : ℕ → List ℕ → List ℕ
+reasonOf w a = field w (w + 1) a
 
 -- ---- its form
 
 -- the length: 110 + 130 r + 64
-unfoldable pub lengthForm : List ℕ → Bool
-lengthForm g = leb bareLength (length g) && eqb ((length g - bareLength) % answerLength) 0
+unfoldable pub lengthForm : List ℕ → List ℕ → Bool
+lengthForm h g = leb bareLength (length g) && eqb ((length g - bareLength) % answerLength (widthOf h)) 0
 
 -- `0`, `000002`, taken 15 digits, rejected 15 digits, `120001`, 25 zeros, LF; receiver, list, reception and `00` or `01` have
 -- clauses of their own
@@ -69,35 +70,35 @@ headForm g =
     && eqs (field 77 82 g) (bytes "120001") && run zeroDigit 25 (field 83 107 g) && eqs (field 110 110 g) lineEnd
 
 -- `1`, LF; the text has a clause of its own, and so has the reason
-unfoldable pub answerForm : List ℕ → Bool
-answerForm a = eqs (field 1 1 a) (bytes "1") && eqs (field 130 130 a) lineEnd
+unfoldable pub answerForm : ℕ → List ℕ → Bool
+answerForm w a = eqs (field 1 1 a) (bytes "1") && eqs (field (answerLength w) (answerLength w) a) lineEnd
 
-unfoldable pub formHolds : List ℕ → Bool
-formHolds g = lengthForm g && headForm g && each answerForm (answersOf g) && footerHolds g
+unfoldable pub formHolds : List ℕ → List ℕ → Bool
+formHolds h g = lengthForm h g && headForm g && each (answerForm (widthOf h)) (answersOf h g) && footerHolds g
 
 -- the receiver is the HGV's sender, the list its list
 unfoldable pub namesHold : List ℕ → List ℕ → Bool
 namesHold h g = eqs (field 8 13 g) (sender h) && eqs (field 14 32 g) (listSequence h)
 
 -- `00` or `01` fits
-unfoldable pub outcomeHolds : List ℕ → Bool
-outcomeHolds g = eqs (field 108 109 g) (outcome (answersIn g))
+unfoldable pub outcomeHolds : List ℕ → List ℕ → Bool
+outcomeHolds h g = eqs (field 108 109 g) (outcome (answersIn h g))
 
 -- 01-06, 08, 09 or 12
-unfoldable pub reasonHolds : List ℕ → Bool
-reasonHolds a = listed 2 (bytes "010203040506080912") (reasonOf a)
+unfoldable pub reasonHolds : ℕ → List ℕ → Bool
+reasonHolds w a = listed 2 (bytes "010203040506080912") (reasonOf w a)
 
 -- ---- its lines against the HGV's
 
 unfoldable pub textsOf : List ℕ → List (List ℕ)
-textsOf h = map text (linesOf h)
+textsOf h = map (text (widthOf h)) (linesOf h)
 
-unfoldable pub copiesOf : List ℕ → List (List ℕ)
-copiesOf g = map text (answersOf g)
+unfoldable pub copiesOf : List ℕ → List ℕ → List (List ℕ)
+copiesOf h g = map (text (widthOf h)) (answersOf h g)
 
 -- 0 for each line of the HGV that was taken
 unfoldable pub marksOf : List ℕ → List ℕ → List ℕ
-marksOf h g = marks (textsOf h) (copiesOf g)
+marksOf h g = marks (textsOf h) (copiesOf h g)
 
 unfoldable pub takenBy : List ℕ → List ℕ → List (List ℕ)
 takenBy h g = pick good (marksOf h g) (linesOf h)
@@ -111,11 +112,11 @@ sameTexts (x ∷ xs) (y ∷ ys) = eqs x y && sameTexts xs ys
 
 -- the HGC's copies are the lines left, in order
 unfoldable pub copiesHold : List ℕ → List ℕ → Bool
-copiesHold h g = sameTexts (left (textsOf h) (copiesOf g)) (copiesOf g)
+copiesHold h g = sameTexts (left (textsOf h) (copiesOf h g)) (copiesOf h g)
 
 -- the counts are those of the lines
 unfoldable pub countsHold : List ℕ → List ℕ → Bool
-countsHold h g = eqb (number (takenOf g)) (length (takenBy h g)) && eqb (number (rejectedOf g)) (answersIn g)
+countsHold h g = eqb (number (takenOf g)) (length (takenBy h g)) && eqb (number (rejectedOf g)) (answersIn h g)
 
 -- a taken line has the sender for its actor, and keeps L1, L5 to L10
 unfoldable pub lineHolds : List ℕ → List ℕ → Bool
@@ -127,7 +128,7 @@ takenHold h g = distinct (map panOf (takenBy h g)) && each (lineHolds h) (takenB
 
 -- what it says by itself, and of whom: its form, receiver and list, reception, `00` or `01`, the reasons
 unfoldable pub saysHold : List ℕ → List ℕ → Bool
-saysHold h g = formHolds g && namesHold h g && realTime (receptionOf g) && outcomeHolds g && each reasonHolds (answersOf g)
+saysHold h g = formHolds h g && namesHold h g && realTime (receptionOf g) && outcomeHolds h g && each (reasonHolds (widthOf h)) (answersOf h g)
 
 -- its lines beside the HGV's
 unfoldable pub linesHold : List ℕ → List ℕ → Bool

@@ -3,24 +3,30 @@
 use hgc::places;
 ghost use mathlib.Core.Path.{_≡_};
 ghost use mathlib.Core.Bool.{_&&_};
+ghost use Rattle.hgv.specs.Layout.{widthOf};
+ghost use Rattle.hgv.specs.laws.Layout.{IsWidth};
 ghost use Rattle.theory.specs.Walk.{each};
 ghost use Rattle.receipts.specs.Receipt.{answersOf, lengthForm, headForm, answerForm, namesHold, outcomeHolds, reasonHolds};
-ghost use Rattle.receipts.specs.Promises.{AnswersIn, Answers, Reception, Says};
-
-// A line of it is longer than the HGV's by its reason.
-pub const LINE: usize = sizes::LINE + sizes::REASON;
+ghost use Rattle.receipts.specs.Promises.{Width, AnswersIn, Answers, Reception, Says};
 
 // Header and footer.
 const BARE: usize = sizes::HGC_HEADER + sizes::FOOTER;
 
+// How wide its lines are: wider than the HGV's by the reason.
+pub fn width(hgv: &[u8]) -> usize
+    ensures { λ r. ⌜ Width (now (hgv .entry)) r ⌝ }
+{
+    hgv::width(hgv) + sizes::REASON
+}
+
 // How many lines it has.
-pub fn answers_in(hgc: &[u8]) -> usize
-    ensures { λ r. ⌜ AnswersIn (now (hgc .entry)) r ⌝ }
+pub fn answers_in(hgv: &[u8], hgc: &[u8]) -> usize
+    ensures { λ r. ⌜ AnswersIn (now (hgv .entry)) (now (hgc .entry)) r ⌝ }
 {
     if hgc.len() < BARE {
         return 0;
     }
-    (hgc.len() - BARE) / LINE
+    (hgc.len() - BARE) / width(hgv)
 }
 
 // Its lines, and what stands behind them.
@@ -39,13 +45,13 @@ pub fn reception<'a>(hgc: &'a [u8]) -> &'a [u8]
     texts::field(hgc, places::RECEPTION_FROM, places::RECEPTION_TO)
 }
 
-fn has_length(hgc: &[u8]) -> bool
-    ensures { λ r. ⌜ r ≡ lengthForm (now (hgc .entry)) ⌝ }
+fn has_length(hgv: &[u8], hgc: &[u8]) -> bool
+    ensures { λ r. ⌜ r ≡ lengthForm (now (hgv .entry)) (now (hgc .entry)) ⌝ }
 {
     if hgc.len() < BARE {
         return false;
     }
-    (hgc.len() - BARE) % LINE == 0
+    (hgc.len() - BARE) % width(hgv) == 0
 }
 
 fn has_head(hgc: &[u8]) -> bool
@@ -66,24 +72,31 @@ fn has_head(hgc: &[u8]) -> bool
         & texts::has_text(hgc, places::HEADER_END, places::HEADER_END, b"\n")
 }
 
-// Has a line its two ends, and a reason that an HGC may name.
-fn is_answer(a: &[u8]) -> bool
-    ensures { λ r. ⌜ r ≡ (answerForm (now (a .entry)) && reasonHolds (now (a .entry))) ⌝ }
+// Has the answer to a line of this width its two ends, and a reason that an HGC may name.
+fn is_answer(a: &[u8], width: usize) -> bool
+    requires { ⌜ IsWidth width ⌝ }
+    ensures { λ r. ⌜ r ≡ (answerForm width (now (a .entry)) && reasonHolds width (now (a .entry))) ⌝ }
 {
-    let reason = texts::field(a, places::REASON_FROM, places::REASON_TO);
+    let end = width + sizes::REASON;
     texts::has_text(a, places::LINE_TYPE, places::LINE_TYPE, b"1")
-        & texts::has_text(a, places::LINE_END, places::LINE_END, b"\n")
-        & texts::listed(reason, 2, b"010203040506080912")
+        & texts::has_text(a, end, end, b"\n")
+        & texts::listed(
+            texts::field(a, width, end - 1),
+            sizes::REASON,
+            b"010203040506080912",
+        )
 }
 
-fn each_is_answer(hgc: &[u8]) -> bool
-    ensures { λ r. ⌜ r ≡ each (λ a. answerForm a && reasonHolds a) (answersOf (now (hgc .entry))) ⌝ }
+fn each_is_answer(hgv: &[u8], hgc: &[u8]) -> bool
+    ensures { λ r. ⌜ r ≡ each (λ a. answerForm (widthOf (now (hgv .entry))) a && reasonHolds (widthOf (now (hgv .entry))) a) (answersOf (now (hgv .entry)) (now (hgc .entry))) ⌝ }
 {
     let lines = answers(hgc);
-    let n = answers_in(hgc);
+    let n = answers_in(hgv, hgc);
+    let sent = hgv::width(hgv);
+    let wide = width(hgv);
     let mut i: usize = 0;
     while i < n {
-        if !is_answer(texts::part(lines, LINE, i)) {
+        if !is_answer(texts::part(lines, wide, i), sent) {
             return false;
         }
         i += 1;
@@ -104,10 +117,10 @@ fn has_names(hgv: &[u8], hgc: &[u8]) -> bool
         & texts::has_text(hgc, places::SEQUENCE_FROM, places::SEQUENCE_TO, sequence)
 }
 
-fn has_outcome(hgc: &[u8]) -> bool
-    ensures { λ r. ⌜ r ≡ outcomeHolds (now (hgc .entry)) ⌝ }
+fn has_outcome(hgv: &[u8], hgc: &[u8]) -> bool
+    ensures { λ r. ⌜ r ≡ outcomeHolds (now (hgv .entry)) (now (hgc .entry)) ⌝ }
 {
-    if answers_in(hgc) == 0 {
+    if answers_in(hgv, hgc) == 0 {
         return texts::has_text(hgc, places::OUTCOME_FROM, places::OUTCOME_TO, b"00");
     }
     texts::has_text(hgc, places::OUTCOME_FROM, places::OUTCOME_TO, b"01")
@@ -117,11 +130,11 @@ fn has_outcome(hgc: &[u8]) -> bool
 pub fn says(hgv: &[u8], hgc: &[u8]) -> bool
     ensures { λ r. ⌜ Says (now (hgv .entry)) (now (hgc .entry)) r ⌝ }
 {
-    has_length(hgc)
+    has_length(hgv, hgc)
         & has_head(hgc)
-        & each_is_answer(hgc)
+        & each_is_answer(hgv, hgc)
         & frames::has_footer(hgc)
         & has_names(hgv, hgc)
         & times::is_real_time(reception(hgc))
-        & has_outcome(hgc)
+        & has_outcome(hgv, hgc)
 }

@@ -1,5 +1,6 @@
 // What Rust calls, on numbers and byte slices: the import. It hands on to the crate that does the work, and writes every
 // number that it is lent, zero at a stop.
+ghost use Rattle.importer.specs.Handed.{handed};
 ghost use Rattle.service.specs.Promises.{GraftspindleImport};
 
 // The import of an HGV: 0 or the number of a stop; how many lines were taken and rejected, and the HGC's length.
@@ -15,7 +16,7 @@ pub extern "C" fn graftspindle_import(
     rejected: &mut u64,
     length: &mut u64,
 ) -> u64
-    ensures { λ r. ⌜ GraftspindleImport mode (now (reception .entry)) (now (register .entry)) (now (rows .entry)) (now (hgv .entry)) (now (hgc .entry)) r (now (taken .exit)) (now (rejected .exit)) (now (length .exit)) (now (register .exit)) (now (hgc .exit)) ⌝ }
+    ensures { λ r. ⌜ GraftspindleImport (handed mode (now (reception .entry)) (now (rows .entry)) (now (hgv .entry)) (now (hgc .entry))) (now (register .entry)) r (now (taken .exit)) (now (rejected .exit)) (now (length .exit)) (now (register .exit)) (now (hgc .exit)) ⌝ }
 {
     let done = importer::import(mode, reception, register, rows, hgv, hgc);
     *taken = done.taken;

@@ -11,7 +11,7 @@ use Rattle.sizes.specs.Sizes.{slotLength}
 use Rattle.lookups.specs.declared.Found.{Found}
 use Rattle.lookups.specs.Lookup.{foundAt, panNumber, panPlace, plateNumber, platePlace}
 use Rattle.lookups.specs.laws.Found.{at-number, at-place, pan-room, plate-room}
-use Rattle.service_lookups.specs.Stands.{startOf, panStart, panLength, plateStart, plateLength}
+use Rattle.service_lookups.specs.Stands.{startOf, panStart, panSlotLength, plateStart, plateSlotLength}
 use Rattle.service_lookups.specs.laws.Stands.{pan-size, plate-size}
 
 -- found is the answer with the record at place i
@@ -38,7 +38,7 @@ module _ (b key : List ℕ) (found : Found) (e : found ≡ foundAt (panNumber b 
 
   -- s is where the slot was said to start, and l how long it was said to be
   pub pan-told : (s : ℕ) → s ≡ found .place * slotLength → (l : ℕ) → l ≡ choose (eqb (found .number) 0) slotLength 0
-      → (found .number ≡ panNumber b key) × ((s ≡ panStart b key) × (l ≡ panLength b key))
+      → (found .number ≡ panNumber b key) × ((s ≡ panStart b key) × (l ≡ panSlotLength b key))
   unfolding panStart
   pan-told s f l g =
       let n : found .number ≡ panNumber b key = at-number (panNumber b key) (panPlace b key) found e in
@@ -49,7 +49,7 @@ module _ (b p n t : List ℕ) (found : Found) (e : found ≡ foundAt (plateNumbe
   plate-within = found-within (plateNumber b p n t) (platePlace b p n t) found e b (plate-room b p n t)
 
   pub plate-told : (s : ℕ) → s ≡ found .place * slotLength → (l : ℕ) → l ≡ choose (eqb (found .number) 0) slotLength 0
-      → (found .number ≡ plateNumber b p n t) × ((s ≡ plateStart b p n t) × (l ≡ plateLength b p n t))
+      → (found .number ≡ plateNumber b p n t) × ((s ≡ plateStart b p n t) × (l ≡ plateSlotLength b p n t))
   unfolding plateStart
   plate-told s f l g =
       let m : found .number ≡ plateNumber b p n t = at-number (plateNumber b p n t) (platePlace b p n t) found e in

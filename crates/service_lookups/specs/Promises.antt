@@ -4,16 +4,16 @@ use mathlib.Core.Path.{_≡_}
 use mathlib.Core.List.{List}
 use Prim.Native.Nat.{ℕ}
 use Rattle.lookups.specs.Lookup.{panNumber, plateNumber}
-use Rattle.service_lookups.specs.Stands.{panStart, panLength, plateStart, plateLength}
+use Rattle.service_lookups.specs.Stands.{panStart, panSlotLength, plateStart, plateSlotLength}
 
 abbrev pub GraftspindleByPan : List ℕ → List ℕ → ℕ → ℕ → ℕ → Type 0
 GraftspindleByPan b key number start size =
     (number ≡ panNumber b key)
     × ((start ≡ panStart b key)
-    × (size ≡ panLength b key))
+    × (size ≡ panSlotLength b key))
 
 abbrev pub GraftspindleByPlate : List ℕ → List ℕ → List ℕ → List ℕ → ℕ → ℕ → ℕ → Type 0
 GraftspindleByPlate b p n t number start size =
     (number ≡ plateNumber b p n t)
     × ((start ≡ plateStart b p n t)
-    × (size ≡ plateLength b p n t))
+    × (size ≡ plateSlotLength b p n t))

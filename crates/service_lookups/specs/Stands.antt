@@ -14,11 +14,11 @@ startOf number place = choose (eqb number 0) (place * slotLength) 0
 unfoldable pub panStart : List ℕ → List ℕ → ℕ
 panStart b key = startOf (panNumber b key) (panPlace b key)
 
-unfoldable pub panLength : List ℕ → List ℕ → ℕ
-panLength b key = length (panSlot b key)
+unfoldable pub panSlotLength : List ℕ → List ℕ → ℕ
+panSlotLength b key = length (panSlot b key)
 
 unfoldable pub plateStart : List ℕ → List ℕ → List ℕ → List ℕ → ℕ
 plateStart b p n t = startOf (plateNumber b p n t) (platePlace b p n t)
 
-unfoldable pub plateLength : List ℕ → List ℕ → List ℕ → List ℕ → ℕ
-plateLength b p n t = length (plateSlot b p n t)
+unfoldable pub plateSlotLength : List ℕ → List ℕ → List ℕ → List ℕ → ℕ
+plateSlotLength b p n t = length (plateSlot b p n t)

@@ -4,6 +4,7 @@ use mathlib.Core.List.{List}
 use Prim.Native.Nat.{ℕ}
 use Rattle.provider.specs.declared.Counted.{Counted}
 use Rattle.reading.specs.Promises.{ReadBack}
+use Rattle.updating.specs.Sent.{Sent}
 use Rattle.updating.specs.Promises.{Update}
 
 -- the three numbers as both answer them
@@ -13,5 +14,5 @@ countedAs number taken rejected = record { number = number; taken = taken; rejec
 abbrev pub GraftspindleReadBack : List ℕ → List ℕ → List ℕ → ℕ → ℕ → ℕ → List ℕ → Type 0
 GraftspindleReadBack h g block number taken rejected v = ReadBack h g block (countedAs number taken rejected) v
 
-abbrev pub GraftspindleUpdate : ℕ → List ℕ → List ℕ → List ℕ → ℕ → ℕ → ℕ → List ℕ → Type 0
-GraftspindleUpdate mode copy h g number taken rejected b = Update mode copy h g (countedAs number taken rejected) b
+abbrev pub GraftspindleUpdate : Sent → List ℕ → ℕ → ℕ → ℕ → List ℕ → Type 0
+GraftspindleUpdate s copy number taken rejected b = Update s copy (countedAs number taken rejected) b

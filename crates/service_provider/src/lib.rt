@@ -1,5 +1,6 @@
 // What Rust calls on the provider's side, on numbers and byte slices: each function hands on to the crate that does the
 // work, and writes every number that it is lent, zero at a stop.
+ghost use Rattle.updating.specs.Sent.{sent};
 ghost use Rattle.service_provider.specs.Promises.{GraftspindleReadBack, GraftspindleUpdate};
 
 // An HGC read back beside its HGV: 0 or the number of a stop; how many lines were taken and rejected.
@@ -29,7 +30,7 @@ pub extern "C" fn graftspindle_update(
     taken: &mut u64,
     rejected: &mut u64,
 ) -> u64
-    ensures { λ r. ⌜ GraftspindleUpdate mode (now (copy .entry)) (now (hgv .entry)) (now (hgc .entry)) r (now (taken .exit)) (now (rejected .exit)) (now (copy .exit)) ⌝ }
+    ensures { λ r. ⌜ GraftspindleUpdate (sent mode (now (hgv .entry)) (now (hgc .entry))) (now (copy .entry)) r (now (taken .exit)) (now (rejected .exit)) (now (copy .exit)) ⌝ }
 {
     let updated = updating::update(mode, copy, hgv, hgc);
     *taken = updated.taken;

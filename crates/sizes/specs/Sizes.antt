@@ -12,6 +12,10 @@ headerLength = 128
 abbrev pub lineLength : ℕ
 lineLength = 128
 
+-- no line is wider
+abbrev pub lineMost : ℕ
+lineMost = lineLength
+
 abbrev pub linesMost : ℕ
 linesMost = partsMost
 

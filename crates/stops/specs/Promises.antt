@@ -3,14 +3,14 @@ use mathlib.Core.Path.{_≡_}
 use mathlib.Core.Bool.{Bool}
 use mathlib.Core.List.{List}
 use Prim.Native.Nat.{ℕ}
-use Rattle.stops.specs.Stops.{modeHolds, notFull, formStop}
+use Rattle.stops.specs.Stops.{modeHolds, fullWith220001, formStop}
 
 abbrev pub IsMode : ℕ → Bool → Type 0
 IsMode mode r = r ≡ modeHolds mode
 
 -- a full list of a version that is incremental only
-abbrev pub IsNotFull : ℕ → List ℕ → Bool → Type 0
-IsNotFull mode h r = r ≡ notFull mode h
+abbrev pub IsFullWith220001 : ℕ → List ℕ → Bool → Type 0
+IsFullWith220001 mode h r = r ≡ fullWith220001 mode h
 
 -- the first of the stops 21 to 32
 abbrev pub FormStop : ℕ → List ℕ → List ℕ → List ℕ → List ℕ → ℕ → Type 0

@@ -20,8 +20,8 @@ unfoldable pub modeHolds : ℕ → Bool
 modeHolds mode = eqb mode incremental || isFull mode
 
 -- 28: mode 2 with 220001
-unfoldable pub notFull : ℕ → List ℕ → Bool
-notFull mode h = isFull mode && incrementalOnly h
+unfoldable pub fullWith220001 : ℕ → List ℕ → Bool
+fullWith220001 mode h = isFull mode && incrementalOnly h
 
 -- 29 is given where this does not hold: the receiver is 000002, and an issuer row has the sender
 unfoldable pub addressed : List ℕ → List ℕ → Bool
@@ -42,7 +42,7 @@ fileStops mode b h =
     (25 if not (lengthHolds h))
     ∷ (26 if not (headerHolds h))
     ∷ (27 if not (versionHolds h))
-    ∷ (28 if notFull mode h)
+    ∷ (28 if fullWith220001 mode h)
     ∷ (29 if not (addressed b h))
     ∷ (30 if not (countHolds h))
     ∷ (31 if not (footerHolds h))

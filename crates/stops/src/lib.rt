@@ -2,7 +2,7 @@
 ghost use mathlib.Core.Path.{_≡_};
 ghost use Rattle.theory.specs.First.{first};
 ghost use Rattle.stops.specs.Stops.{addressed, callStops, fileStops};
-ghost use Rattle.stops.specs.Promises.{IsMode, IsNotFull, FormStop};
+ghost use Rattle.stops.specs.Promises.{IsMode, IsFullWith220001, FormStop};
 
 pub fn is_mode(mode: u64) -> bool
     ensures { λ r. ⌜ IsMode mode r ⌝ }
@@ -10,8 +10,8 @@ pub fn is_mode(mode: u64) -> bool
     (mode == sizes::INCREMENTAL) | (mode == sizes::FULL)
 }
 
-pub fn is_not_full(mode: u64, hgv: &[u8]) -> bool
-    ensures { λ r. ⌜ IsNotFull mode (now (hgv .entry)) r ⌝ }
+pub fn is_full_with_220001(mode: u64, hgv: &[u8]) -> bool
+    ensures { λ r. ⌜ IsFullWith220001 mode (now (hgv .entry)) r ⌝ }
 {
     (mode == sizes::FULL) & claims::is_incremental_only(hgv)
 }
@@ -41,7 +41,7 @@ fn file_stop(mode: u64, rows: &[u8], hgv: &[u8]) -> u64
     let s31 = rules::first(!frames::has_footer(hgv), 31, s32);
     let s30 = rules::first(!claims::has_count(hgv), 30, s31);
     let s29 = rules::first(!is_addressed(rows, hgv), 29, s30);
-    let s28 = rules::first(is_not_full(mode, hgv), 28, s29);
+    let s28 = rules::first(is_full_with_220001(mode, hgv), 28, s29);
     let s27 = rules::first(!claims::has_version(hgv), 27, s28);
     let s26 = rules::first(!header::has_header(hgv), 26, s27);
     rules::first(!hgv::has_length(hgv), 25, s26)

@@ -30,8 +30,9 @@ use Rattle.applying.specs.laws.Sought.{NoPlaces, sought}
 use Rattle.pairing.specs.Backwards.{paired}
 use Rattle.receipts.specs.Receipt.{receptionOf, textsOf, copiesOf, takenBy, receiptHolds}
 use Rattle.provider.specs.declared.Counted.{Counted}
-use Rattle.provider.specs.Answer.{refusal, counted}
-use Rattle.updating.specs.Update.{copyStops, following, updateAnswer, updated, copyAfter}
+use Rattle.provider.specs.Answer.{stopCounts, successCounts}
+use Rattle.updating.specs.Sent.{sent}
+use Rattle.updating.specs.Update.{copyStops, copyFollowing, updateAnswer, copyWritten, copyAfter}
 use Rattle.updating.specs.laws.Numbers.{copy-sound, update-52, update-33, update-done, update-refused, copy-stays, update-counted, copy-updated}
 use Rattle.updating.specs.laws.Fits.{following-used, taken-fit}
 use Rattle.provider.specs.laws.Held.{received-held, taken-kept, holds, marks-fit, marks-each}
@@ -42,13 +43,13 @@ copy-most mode copy h s e z n f = rw f (lines-most h (copy-sound mode copy h (sy
 
 module _ (mode : ℕ) (copy h g : List ℕ) (z : first (copyStops mode copy h) ≡ 0) (r : Bool) (er : r ≡ receiptHolds h g) where
   -- 52
-  pub update-not : not r ≡ true → (a : Counted) → a ≡ refusal 52 → (a ≡ updateAnswer mode copy h g) × (copy ≡ copyAfter mode copy h g)
+  pub update-not : not r ≡ true → (a : Counted) → a ≡ stopCounts 52 → (a ≡ updateAnswer (sent mode h g) copy) × (copy ≡ copyAfter (sent mode h g) copy)
   update-not k a e =
       let n = update-52 mode copy h g z (sym er ∙ not-true r k) in
       (e ∙ update-refused mode copy h g 52 n (λ i. omega arith), copy-stays mode copy h g 52 n (λ i. omega arith))
 
   -- from, ls and w are sender, body and width
-  module _ (k : not r ≡ false) (ms : List ℕ) (em : ms ≡ paired (textsOf h) (copiesOf g))
+  module _ (k : not r ≡ false) (ms : List ℕ) (em : ms ≡ paired (textsOf h) (copiesOf h g))
       (from ls : List ℕ) (w : ℕ) (ef : from ≡ sender h) (el : ls ≡ body h) (ew : w ≡ widthOf h) where
     pub lines-fit : length ms * w ≤ length ls
     lines-fit = rw (marks-each h g r er k ms em, el, ew) (lines-room h)
@@ -65,17 +66,17 @@ module _ (mode : ℕ) (copy h g : List ℕ) (z : first (copyStops mode copy h) �
 
     -- u slots would be used
     module _ (u : ℕ) (eu : u ≡ usedAfter mode from (records copy) (takenIn w ms ls)) where
-      used-is : u ≡ length (following mode copy h g)
+      used-is : u ≡ length (copyFollowing (sent mode h g) copy)
       used-is = eu ∙ rw (lines-are, ef) (following-used h g (holds h g r er k) mode copy)
 
       -- 33
-      pub update-full : slotsIn copy < u → (a : Counted) → a ≡ refusal 33 → (a ≡ updateAnswer mode copy h g) × (copy ≡ copyAfter mode copy h g)
+      pub update-full : slotsIn copy < u → (a : Counted) → a ≡ stopCounts 33 → (a ≡ updateAnswer (sent mode h g) copy) × (copy ≡ copyAfter (sent mode h g) copy)
       update-full l a e =
           let n = update-33 mode copy h g z (holds h g r er k) (omega (arith, used-is)) in
           (e ∙ update-refused mode copy h g 33 n (λ i. omega arith), copy-stays mode copy h g 33 n (λ i. omega arith))
 
       module _ (l : u ≤ slotsIn copy) (reception : List ℕ) (ec : reception ≡ receptionOf g) where
-        room : length (following mode copy h g) ≤ slotsIn copy
+        room : length (copyFollowing (sent mode h g) copy) ≤ slotsIn copy
         room = omega (arith, used-is)
 
         -- found₀ is the block before, and `found` what was found
@@ -104,10 +105,10 @@ module _ (mode : ℕ) (copy h g : List ℕ) (z : first (copyStops mode copy h) �
               ),
             )
 
-        pub update-whole : (a : Counted) → a ≡ counted h g
+        pub update-whole : (a : Counted) → a ≡ successCounts h g
             → (b : List ℕ) → Holds (slotsIn copy) (holdings mode from (recordOf reception) (records copy) (takenIn w ms ls)) b
-            → (a ≡ updateAnswer mode copy h g) × (b ≡ copyAfter mode copy h g)
-        unfolding updated following
+            → (a ≡ updateAnswer (sent mode h g) copy) × (b ≡ copyAfter (sent mode h g) copy)
+        unfolding copyWritten copyFollowing
         update-whole a e b f =
             let n = update-done mode copy h g z (holds h g r er k) room in
             (e ∙ update-counted mode copy h g n, f .bytes ∙ rw (lines-are, ef, ec) (copy-updated mode copy h g n))

@@ -1,3 +1,4 @@
+pub mod Sent
 pub mod Update
 pub mod Promises
 pub mod laws

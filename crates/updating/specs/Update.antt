@@ -1,5 +1,5 @@
 -- The provider's update of his copy: its stops, its answer, and the copy after it, for every mode and texts of every length.
--- h is the HGV, g the HGC. Assumes nothing.
+-- h is the HGV, s what the provider was sent. Assumes nothing.
 use Prim.Native.Nat.{ℕ}
 use mathlib.Core.Bool.{Bool, not}
 use mathlib.Core.List.{List, [], _∷_, _++_}
@@ -20,10 +20,11 @@ use Rattle.slots.specs.Slots.{slotsIn, records}
 use Rattle.register.specs.Register.{inOrder}
 use Rattle.slots.specs.Search.{ofActor}
 use Rattle.holdings.specs.Holdings.{holdings}
-use Rattle.stops.specs.Stops.{modeHolds, notFull}
+use Rattle.stops.specs.Stops.{modeHolds, fullWith220001}
 use Rattle.receipts.specs.Receipt.{receptionOf, takenBy, receiptHolds}
 use Rattle.provider.specs.declared.Counted.{Counted}
-use Rattle.provider.specs.Answer.{refusal, counted}
+use Rattle.provider.specs.Answer.{stopCounts, successCounts}
+use Rattle.updating.specs.Sent.{Sent}
 
 -- every record in the copy is the sender's
 unfoldable pub ownHolds : List ℕ → List ℕ → Bool
@@ -37,7 +38,7 @@ copyStops mode copy h =
     ∷ (25 if not (lengthHolds h))
     ∷ (26 if not (headerHolds h))
     ∷ (27 if not (versionHolds h))
-    ∷ (28 if notFull mode h)
+    ∷ (28 if fullWith220001 mode h)
     ∷ (29 if not (receiverHolds h))
     ∷ (51 if not (ownHolds copy h))
     ∷ (30 if not (countHolds h))
@@ -46,23 +47,23 @@ copyStops mode copy h =
     ∷ []
 
 -- the records that follow: the taken lines applied as the import applies them, with the HGC's reception
-unfoldable pub following : ℕ → List ℕ → List ℕ → List ℕ → List (List ℕ)
-following mode copy h g = holdings mode (sender h) (recordOf (receptionOf g)) (records copy) (takenBy h g)
+unfoldable pub copyFollowing : Sent → List ℕ → List (List ℕ)
+copyFollowing s copy = holdings (s .mode) (sender (s .hgv)) (recordOf (receptionOf (s .hgc))) (records copy) (takenBy (s .hgv) (s .hgc))
 
 -- 52, and 33: more used slots would follow than there are
-unfoldable pub roomStops : ℕ → List ℕ → List ℕ → List ℕ → List Rule
-roomStops mode copy h g = (52 if not (receiptHolds h g)) ∷ (33 if ltb (slotsIn copy) (length (following mode copy h g))) ∷ []
+unfoldable pub receiptStops : Sent → List ℕ → List Rule
+receiptStops s copy = (52 if not (receiptHolds (s .hgv) (s .hgc))) ∷ (33 if ltb (slotsIn copy) (length (copyFollowing s copy))) ∷ []
 
 -- the number answered: the first that holds, 0 for success
-unfoldable pub updateNumber : ℕ → List ℕ → List ℕ → List ℕ → ℕ
-updateNumber mode copy h g = first (copyStops mode copy h ++ roomStops mode copy h g)
+unfoldable pub updateNumber : Sent → List ℕ → ℕ
+updateNumber s copy = first (copyStops (s .mode) copy (s .hgv) ++ receiptStops s copy)
 
-unfoldable pub updateAnswer : ℕ → List ℕ → List ℕ → List ℕ → Counted
-updateAnswer mode copy h g = let n : ℕ = updateNumber mode copy h g in unlessStopped n (counted h g) (refusal n)
+unfoldable pub updateAnswer : Sent → List ℕ → Counted
+updateAnswer s copy = let n : ℕ = updateNumber s copy in unlessStopped n (successCounts (s .hgv) (s .hgc)) (stopCounts n)
 
 -- the records that follow, and free slots behind them
-unfoldable pub updated : ℕ → List ℕ → List ℕ → List ℕ → List ℕ
-updated mode copy h g = flat (pad slotLength (slotsIn copy) (following mode copy h g))
+unfoldable pub copyWritten : Sent → List ℕ → List ℕ
+copyWritten s copy = flat (pad slotLength (slotsIn copy) (copyFollowing s copy))
 
-unfoldable pub copyAfter : ℕ → List ℕ → List ℕ → List ℕ → List ℕ
-copyAfter mode copy h g = unlessStopped (updateNumber mode copy h g) (updated mode copy h g) copy
+unfoldable pub copyAfter : Sent → List ℕ → List ℕ
+copyAfter s copy = unlessStopped (updateNumber s copy) (copyWritten s copy) copy

@@ -4,6 +4,7 @@ ghost use lib.ListN.{length};
 ghost use Rattle.theory.specs.First.{first};
 ghost use Rattle.hgv.specs.Layout.{linesIn};
 ghost use Rattle.applying.specs.laws.Sought.{NoPlaces};
+ghost use Rattle.updating.specs.Sent.{sent};
 ghost use Rattle.updating.specs.Update.{ownHolds, copyStops};
 ghost use Rattle.updating.specs.Promises.{Update};
 
@@ -24,7 +25,7 @@ fn copy_stop(mode: u64, copy: &[u8], hgv: &[u8]) -> u64
     let s30 = rules::first(!claims::has_count(hgv), 30, s31);
     let s51 = rules::first(!is_own(copy, hgv), 51, s30);
     let s29 = rules::first(!claims::has_receiver(hgv), 29, s51);
-    let s28 = rules::first(stops::is_not_full(mode, hgv), 28, s29);
+    let s28 = rules::first(stops::is_full_with_220001(mode, hgv), 28, s29);
     let s27 = rules::first(!claims::has_version(hgv), 27, s28);
     let s26 = rules::first(!header::has_header(hgv), 26, s27);
     let s25 = rules::first(!hgv::has_length(hgv), 25, s26);
@@ -45,7 +46,7 @@ fn update_lines(
     requires each { ⌜ length (now marks) ≡ linesIn (now hgv) ⌝ }
     requires many { ⌜ length (now found) ≡ linesIn (now hgv) ⌝ }
     requires none { ⌜ NoPlaces (now found) ⌝ }
-    ensures { λ r. ⌜ Update mode (now (copy .entry)) (now (hgv .entry)) (now (hgc .entry)) r (now (copy .exit)) ⌝ }
+    ensures { λ r. ⌜ Update (sent mode (now (hgv .entry)) (now (hgc .entry))) (now (copy .entry)) r (now (copy .exit)) ⌝ }
 {
     if !provider::is_receipt(hgv, hgc, marks) {
         return provider::refused(52);
@@ -64,7 +65,7 @@ fn update_lines(
 
 // The update of a provider's copy by an import of his: 0 or a stop, and how many lines were taken and rejected.
 pub fn update(mode: u64, copy: &mut [u8], hgv: &[u8], hgc: &[u8]) -> provider::Counted
-    ensures { λ r. ⌜ Update mode (now (copy .entry)) (now (hgv .entry)) (now (hgc .entry)) r (now (copy .exit)) ⌝ }
+    ensures { λ r. ⌜ Update (sent mode (now (hgv .entry)) (now (hgc .entry))) (now (copy .entry)) r (now (copy .exit)) ⌝ }
 {
     let stop = copy_stop(mode, copy, hgv);
     if stop != 0 {

@@ -29,7 +29,7 @@ use Rattle.times.specs.Time.{daysIn, realTime, realDate}
 use Rattle.vehicles.specs.Vehicle.{tariffHolds, classHolds, emissionHolds, productHolds, engineHolds, validToHolds, separatorHolds, fieldsHold, weightHolds, vehicleHolds}
 use Rattle.times.specs.Order.{earlier}
 use Rattle.lines.specs.End.{endOf, recordOf}
-use Rattle.lines.specs.Rules.{L1, L2, L3, L4, L5, L6, L7, stateless, L8, L9, lineRules, recordHolds, L10}
+use Rattle.lines.specs.Rules.{L1, L2, L3, L4, L5, L6, L7, nationalityBlank, L8, L9, lineRules, recordHolds, L10}
 use Rattle.lines.specs.laws.Starred.{starred}
 use Rattle.slots.specs.Slots.{slotsOf, marked, records, usedPart}
 use Rattle.register.specs.Register.{usedForm, freeForm, inOrder}
@@ -46,16 +46,18 @@ use Rattle.verdicts.specs.laws.Verdict.{rejected}
 use Rattle.holdings.specs.Holdings.{storedOn, stored, storedAll, others, replacedAll, holdings}
 use Rattle.sizes.specs.Modes.{isFull}
 use Rattle.holdings.specs.Room.{usedAfter}
-use Rattle.stops.specs.Stops.{modeHolds, notFull, addressed, callStops, fileStops, formStops, formStop}
+use Rattle.stops.specs.Stops.{modeHolds, fullWith220001, addressed, callStops, fileStops, formStops, formStop}
 use Rattle.theory.specs.Stopped.{unlessStopped}
-use Rattle.importer.specs.Import.{judged, following, confirmed, roomStops, stops, numberOf, refusal, success, registerAfter, hgcAfter, answer as answered, written, told}
+use Rattle.importer.specs.Handed.{Handed}
+use Rattle.importer.specs.Import.{judged, following, confirmed, roomStops, stops, importNumber, refusal, success, registerAfter, hgcAfter, importAnswer, registerWritten, hgcWritten}
 use Rattle.importer.specs.declared.Imported.{Imported}
 use Rattle.pairing.specs.Pairing.{isTaken, marksFrom, marks, left}
 use Rattle.receipts.specs.Receipt.{answersIn, behindHead, answersOf, lengthForm, headForm, answerForm, formHolds, namesHold, outcomeHolds, reasonHolds, textsOf, copiesOf, marksOf, takenBy, sameTexts, copiesHold, countsHold, lineHolds, takenHold, saysHold, linesHold, receiptHolds}
 use Rattle.provider.specs.declared.Counted.{Counted}
-use Rattle.provider.specs.Answer.{refusal as turnedDown, counted as told-counts}
-use Rattle.updating.specs.Update.{ownHolds, copyStops, following as copied, roomStops as copyRoom, updateNumber, updateAnswer, updated, copyAfter}
-use Rattle.demands.specs.History.{Handed, Sent, empty}
+use Rattle.provider.specs.Answer.{stopCounts, successCounts}
+use Rattle.updating.specs.Sent.{Sent, sent}
+use Rattle.updating.specs.Update.{ownHolds, copyStops, copyFollowing, receiptStops, updateNumber, updateAnswer, copyWritten, copyAfter}
+use Rattle.demands.specs.History.{empty}
 use Rattle.witnesses.specs.Files as files
 
 -- what is handed over with a file
@@ -64,13 +66,13 @@ with mode h = record { mode = mode; reception = files.reception; rows = files.ro
 
 -- the answer to it beside this register, the register after it, and the buffer
 abbrev pub answerTo : List ℕ → Handed → Imported
-answerTo register f = answered (f .mode) (f .reception) register (f .rows) (f .hgv) (f .hgc)
+answerTo register f = importAnswer f register
 
 abbrev pub after : List ℕ → Handed → List ℕ
-after register f = registerAfter (f .mode) (f .reception) register (f .rows) (f .hgv) (f .hgc)
+after register f = registerAfter f register
 
 abbrev pub bufferAfter : List ℕ → Handed → List ℕ
-bufferAfter register f = hgcAfter (f .mode) (f .reception) register (f .rows) (f .hgv) (f .hgc)
+bufferAfter register f = hgcAfter f register
 
 abbrev pub counts4 : ℕ → ℕ → ℕ → ℕ → Imported
 counts4 number taken rejected size = record { number = number; taken = taken; rejected = rejected; length = size }
@@ -167,18 +169,18 @@ pub record Six : Type 0 where
 -- ---- the copies of the two, updated afterwards
 
 -- what a provider was sent with a file
-abbrev pub sent : Handed → List ℕ → Sent
-sent f hgc = record { mode = f .mode; hgv = f .hgv; hgc = hgc }
+abbrev pub sentWith : Handed → List ℕ → Sent
+sentWith f hgc = sent (f .mode) (f .hgv) hgc
 
 -- the copy after these were applied, one after the other
 unfoldable pub copyBy : List ℕ → List Sent → List ℕ
 copyBy copy [] = copy
-copyBy copy (s ∷ ss) = copyBy (copyAfter (s .mode) copy (s .hgv) (s .hgc)) ss
+copyBy copy (s ∷ ss) = copyBy (copyAfter s copy) ss
 
 -- and what the updates answered, the last in front
 unfoldable pub answersBy : List ℕ → List Counted → List Sent → List Counted
 answersBy copy us [] = us
-answersBy copy us (s ∷ ss) = answersBy (copyAfter (s .mode) copy (s .hgv) (s .hgc)) (updateAnswer (s .mode) copy (s .hgv) (s .hgc) ∷ us) ss
+answersBy copy us (s ∷ ss) = answersBy (copyAfter s copy) (updateAnswer s copy ∷ us) ss
 
 abbrev pub counts3 : ℕ → ℕ → ℕ → Counted
 counts3 number taken rejected = record { number = number; taken = taken; rejected = rejected }
@@ -188,17 +190,17 @@ abbrev pub started : List ℕ
 started = empty 3
 
 abbrev pub late : List Sent
-late = sent file₁ hgc₁ ∷ sent file₄ hgc₄ ∷ sent file₅ hgc₅ ∷ []
+late = sentWith file₁ hgc₁ ∷ sentWith file₄ hgc₄ ∷ sentWith file₅ hgc₅ ∷ []
 
 pub record Late : Type 0 where
   pub copy-is : copyBy started late ≡ files.other ++ files.replaced ++ files.free
   pub answers-are : answersBy started [] late ≡ counts3 0 1 0 ∷ counts3 0 2 0 ∷ counts3 0 1 1 ∷ []
   -- and the other's
-  pub their-copy : copyBy started (sent file₂ hgc₂ ∷ []) ≡ files.foreign ++ files.free ++ files.free
-  pub their-answers : answersBy started [] (sent file₂ hgc₂ ∷ []) ≡ counts3 0 1 0 ∷ []
+  pub their-copy : copyBy started (sentWith file₂ hgc₂ ∷ []) ≡ files.foreign ++ files.free ++ files.free
+  pub their-answers : answersBy started [] (sentWith file₂ hgc₂ ∷ []) ≡ counts3 0 1 0 ∷ []
 
 -- ---- computed, by every definition that the contracts reach
 
 pub computed : Single × (Six × Late)
-unfolding takenNext earlier bump distinct all run leading choose first flat onto free pad frontOn front chop good bad pick eqs mem scan tally each some field listed filledTo filled numberAfter number decimal pan doubled addend luhnSum luhn allowed plate nationality separated separator rowHolds rowsHold sentBy rowBegins rowFits known someRowBegins someRowFits daysIn realTime realDate tariffHolds classHolds emissionHolds productHolds engineHolds validToHolds separatorHolds fieldsHold vehicleHolds weightHolds L10 endOf recordOf L1 L2 L3 L4 L5 L6 L7 stateless L8 L9 lineRules recordHolds starred slotsOf marked usedForm freeForm records usedPart inOrder holdsPan placeOf ofActor holdsForeign heldByAnother countOf widthOf linesIn lengthHolds body linesOf footer footerForm footerHolds framed framesHold sequence previousHolds headerHolds versionHolds incrementalOnly receiverHolds countHolds zeros outcome names counts head answer said answers foot confirmation ownRules verdictRules verdict verdictsOf fileVerdicts taken rejected storedOn stored storedAll others replacedAll isFull holdings usedAfter modeHolds notFull addressed callStops fileStops formStops formStop judged following confirmed roomStops stops numberOf unlessStopped refusal success registerAfter hgcAfter written told answered empty sift isTaken marksFrom marks left answersIn behindHead answersOf lengthForm headForm answerForm formHolds namesHold outcomeHolds reasonHolds textsOf copiesOf marksOf takenBy sameTexts copiesHold countsHold lineHolds takenHold saysHold linesHold receiptHolds turnedDown told-counts ownHolds copyStops copied copyRoom updateNumber updateAnswer updated copyAfter count copyBy answersBy
+unfolding takenNext earlier bump distinct all run leading choose first flat onto free pad frontOn front chop good bad pick eqs mem scan tally each some field listed filledTo filled numberAfter number decimal pan doubled addend luhnSum luhn allowed plate nationality separated separator rowHolds rowsHold sentBy rowBegins rowFits known someRowBegins someRowFits daysIn realTime realDate tariffHolds classHolds emissionHolds productHolds engineHolds validToHolds separatorHolds fieldsHold vehicleHolds weightHolds L10 endOf recordOf L1 L2 L3 L4 L5 L6 L7 nationalityBlank L8 L9 lineRules recordHolds starred slotsOf marked usedForm freeForm records usedPart inOrder holdsPan placeOf ofActor holdsForeign heldByAnother countOf widthOf linesIn lengthHolds body linesOf footer footerForm footerHolds framed framesHold sequence previousHolds headerHolds versionHolds incrementalOnly receiverHolds countHolds zeros outcome names counts head answer said answers foot confirmation ownRules verdictRules verdict verdictsOf fileVerdicts taken rejected storedOn stored storedAll others replacedAll isFull holdings usedAfter modeHolds fullWith220001 addressed callStops fileStops formStops formStop judged following confirmed roomStops stops importNumber unlessStopped refusal success registerAfter hgcAfter registerWritten hgcWritten importAnswer empty sift isTaken marksFrom marks left answersIn behindHead answersOf lengthForm headForm answerForm formHolds namesHold outcomeHolds reasonHolds textsOf copiesOf marksOf takenBy sameTexts copiesHold countsHold lineHolds takenHold saysHold linesHold receiptHolds stopCounts successCounts ownHolds copyStops copyFollowing receiptStops updateNumber updateAnswer copyWritten copyAfter count copyBy answersBy
 computed = (record { good-answer = refl; good-register = refl; empty-answer = refl; empty-hgc = refl; bad-answer = refl; bad-hgc = refl; different = refl; first-register = refl; both-register = refl; both-different = refl; ended-register = refl; ended-hgc = refl }, (record { answer₁ = refl; after₁ = refl; hgc-is₁ = refl; answer₂ = refl; after₂ = refl; hgc-is₂ = refl; answer₃ = refl; after₃ = refl; answer₄ = refl; after₄ = refl; hgc-is₄ = refl; answer₅ = refl; after₅ = refl; hgc-is₅ = refl; answer₆ = refl; after₆ = refl }, record { copy-is = refl; answers-are = refl; their-copy = refl; their-answers = refl }))

@@ -9,7 +9,8 @@ use Rattle.theory.specs.Same.{eqs}
 use Rattle.theory.specs.laws.Same.{eqs-refl}
 use Rattle.importer.specs.declared.Imported.{Imported}
 use Rattle.importer.specs.Promises.{Import}
-use Rattle.demands.specs.History.{Handed, Imports, empty}
+use Rattle.importer.specs.Handed.{Handed}
+use Rattle.demands.specs.History.{empty}
 use Rattle.witnesses.specs.Files as files
 use Rattle.witnesses.specs.Computed.{with, answerTo, after, bufferAfter, Single, computed}
 
@@ -25,7 +26,7 @@ Build = Handed → List ℕ → Made
 
 -- it meets the contract, whatever is handed over
 abbrev pub Meets : Build → Type 0
-Meets build = (f : Handed) (register : List ℕ) → Imports f register (build f register .answer) (build f register .register) (build f register .hgc)
+Meets build = (f : Handed) (register : List ℕ) → Import f register (build f register .answer) (build f register .register) (build f register .hgc)
 
 -- two texts that differ are not the same
 differ : (a b : List ℕ) → eqs a b ≡ false → a ≡ b → ⊥

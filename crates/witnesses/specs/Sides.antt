@@ -16,16 +16,17 @@ use Rattle.importer.specs.declared.Imported.{Imported}
 use Rattle.importer.specs.Promises.{Import}
 use Rattle.updating.specs.Promises.{Update}
 use Rattle.demands.specs.Own.{own}
-use Rattle.demands.specs.History.{Handed, Imports, apply, Event, acceptance, concerns, his, entries, empty, _▸_, Ours, start, accepted, refused, Replay, applied}
+use Rattle.importer.specs.Handed.{Handed}
+use Rattle.demands.specs.History.{apply, Event, acceptance, concerns, his, entries, empty, _▸_, Ours, start, accepted, refused, Replay, applied}
 use Rattle.demands.specs.Demand3.{copy-is}
 use Rattle.witnesses.specs.Files as files
-use Rattle.witnesses.specs.Computed.{answerTo, after, bufferAfter, counts4, file₁, file₂, file₃, file₄, file₅, file₆, register₁, register₂, register₄, register₅, hgc₁, hgc₂, hgc₄, hgc₅, Six, Late, sent, copyBy, answersBy, counts3, computed}
+use Rattle.witnesses.specs.Computed.{answerTo, after, bufferAfter, counts4, file₁, file₂, file₃, file₄, file₅, file₆, register₁, register₂, register₄, register₅, hgc₁, hgc₂, hgc₄, hgc₅, Six, Late, sentWith, copyBy, answersBy, counts3, computed}
 
 six : Six
 six = computed .1 .0
 
 -- an outcome of an import, told by what was computed
-outcome : (f : Handed) (register : List ℕ) (r : Imported) (b : List ℕ) → answerTo register f ≡ r → after register f ≡ b → Imports f register r b (bufferAfter register f)
+outcome : (f : Handed) (register : List ℕ) (r : Imported) (b : List ℕ) → answerTo register f ≡ r → after register f ≡ b → Import f register r b (bufferAfter register f)
 unfolding Import
 outcome f register r b e d = (sym e, (sym d, refl))
 
@@ -54,12 +55,12 @@ six-files =
     refused s₅ file₆ _ _ _ (outcome file₆ register₅ (counts4 33 0 0 0) register₅ (six .answer₆) (six .after₆)) (λ z. omega arith)
 
 -- of it the first provider's, as he applies it late
-his-are : entries (his files.one events) ≡ [] ▸ apply (sent file₁ hgc₁) ▸ apply (sent file₄ hgc₄) ▸ apply (sent file₅ hgc₅)
+his-are : entries (his files.one events) ≡ [] ▸ apply (sentWith file₁ hgc₁) ▸ apply (sentWith file₄ hgc₄) ▸ apply (sentWith file₅ hgc₅)
 unfolding his sift onto concerns acceptance eqs field
 his-are = rw (six .hgc-is₁, six .hgc-is₄, six .hgc-is₅)
 
 -- and the other's
-theirs-are : entries (his files.another events) ≡ [] ▸ apply (sent file₂ hgc₂)
+theirs-are : entries (his files.another events) ≡ [] ▸ apply (sentWith file₂ hgc₂)
 unfolding his sift onto concerns acceptance eqs field
 theirs-are = rw (six .hgc-is₂)
 
@@ -69,14 +70,14 @@ unfolding Update copyBy answersBy
 his-copy =
     let l : Late = computed .1 .1 in
     rw (his-are, ← l .copy-is, ← l .answers-are)
-    (applied (applied (applied start (sent file₁ hgc₁) _ _ (refl, refl)) (sent file₄ hgc₄) _ _ (refl, refl)) (sent file₅ hgc₅) _ _ (refl, refl))
+    (applied (applied (applied start (sentWith file₁ hgc₁) _ _ (refl, refl)) (sentWith file₄ hgc₄) _ _ (refl, refl)) (sentWith file₅ hgc₅) _ _ (refl, refl))
 
 -- and the other's
 pub their-copy : Replay 3 (entries (his files.another events)) (files.foreign ++ files.free ++ files.free) (counts3 0 1 0 ∷ [])
 unfolding Update copyBy answersBy
 their-copy =
     let l : Late = computed .1 .1 in
-    rw (theirs-are, ← l .their-copy, ← l .their-answers) (applied start (sent file₂ hgc₂) _ _ (refl, refl))
+    rw (theirs-are, ← l .their-copy, ← l .their-answers) (applied start (sentWith file₂ hgc₂) _ _ (refl, refl))
 
 -- it is what demand 3 says
 pub both-sides : files.other ++ files.replaced ++ files.free ≡ flat (pad slotLength 3 (own files.one (records register₅)))

@@ -9,9 +9,10 @@ use Rattle.theory.specs.laws.Stopped.{number-kept}
 use Rattle.lookups.specs.Lookup.{panRules, panNumber, plateRules, plateNumber}
 use Rattle.lookups.specs.Promises.{ByPan, ByPlate}
 use Rattle.provider.specs.declared.Counted.{Counted}
-use Rattle.provider.specs.Answer.{refusal, counted}
-use Rattle.reading.specs.ReadBack.{fileStops, blockStops, readNumber, readAnswer}
-use Rattle.updating.specs.Update.{copyStops, roomStops, updateNumber, updateAnswer}
+use Rattle.provider.specs.Answer.{stopCounts, successCounts}
+use Rattle.reading.specs.ReadBack.{hgvStops, blockStops, readNumber, readAnswer}
+use Rattle.updating.specs.Sent.{Sent}
+use Rattle.updating.specs.Update.{copyStops, receiptStops, updateNumber, updateAnswer}
 use Rattle.reading.specs.Promises.{ReadBack}
 use Rattle.updating.specs.Promises.{Update}
 use Rattle.reading.specs.laws.Numbers.{read-refused, verdicts-stay}
@@ -21,31 +22,31 @@ use Rattle.updating.specs.laws.Numbers.{update-refused, copy-stays}
 
 module _ (h g block : List ℕ) (r : Counted) (v : List ℕ) (o : ReadBack h g block r v) where
   read-is : r .number ≡ readNumber h g block
-  unfolding ReadBack readAnswer counted refusal
-  read-is = ap (λ (a : Counted). a .number) (o .0) ∙ number-kept (λ (a : Counted). a .number) (readNumber h g block) (counted h g) (refusal (readNumber h g block)) refl refl
+  unfolding ReadBack readAnswer successCounts stopCounts
+  read-is = ap (λ (a : Counted). a .number) (o .0) ∙ number-kept (λ (a : Counted). a .number) (readNumber h g block) (successCounts h g) (stopCounts (readNumber h g block)) refl refl
 
-  pub read-decided : Decided (fileStops h ++ blockStops h g block) (r .number)
-  unfolding readNumber fileStops blockStops numbered
-  read-decided = decided (fileStops h ++ blockStops h g block) refl (r .number) read-is
+  pub read-decided : Decided (hgvStops h ++ blockStops h g block) (r .number)
+  unfolding readNumber hgvStops blockStops numbered
+  read-decided = decided (hgvStops h ++ blockStops h g block) refl (r .number) read-is
 
   pub read-refusal : (r .number ≡ 0 → ⊥) → (r ≡ record { number = r .number; taken = 0; rejected = 0 }) × (v ≡ block)
-  unfolding ReadBack refusal
+  unfolding ReadBack stopCounts
   read-refusal k = (o .0 ∙ sym (read-refused h g block (r .number) read-is k), o .1 ∙ sym (verdicts-stay h g block (r .number) read-is k))
 
 -- ---- the update
 
-module _ (mode : ℕ) (copy h g : List ℕ) (r : Counted) (c : List ℕ) (o : Update mode copy h g r c) where
-  update-is : r .number ≡ updateNumber mode copy h g
-  unfolding Update updateAnswer counted refusal
-  update-is = ap (λ (a : Counted). a .number) (o .0) ∙ number-kept (λ (a : Counted). a .number) (updateNumber mode copy h g) (counted h g) (refusal (updateNumber mode copy h g)) refl refl
+module _ (s : Sent) (copy : List ℕ) (r : Counted) (c : List ℕ) (o : Update s copy r c) where
+  update-is : r .number ≡ updateNumber s copy
+  unfolding Update updateAnswer successCounts stopCounts
+  update-is = ap (λ (a : Counted). a .number) (o .0) ∙ number-kept (λ (a : Counted). a .number) (updateNumber s copy) (successCounts (s .hgv) (s .hgc)) (stopCounts (updateNumber s copy)) refl refl
 
-  pub update-decided : Decided (copyStops mode copy h ++ roomStops mode copy h g) (r .number)
-  unfolding updateNumber copyStops roomStops numbered
-  update-decided = decided (copyStops mode copy h ++ roomStops mode copy h g) refl (r .number) update-is
+  pub update-decided : Decided (copyStops (s .mode) copy (s .hgv) ++ receiptStops s copy) (r .number)
+  unfolding updateNumber copyStops receiptStops numbered
+  update-decided = decided (copyStops (s .mode) copy (s .hgv) ++ receiptStops s copy) refl (r .number) update-is
 
   pub update-refusal : (r .number ≡ 0 → ⊥) → (r ≡ record { number = r .number; taken = 0; rejected = 0 }) × (c ≡ copy)
-  unfolding Update refusal
-  update-refusal k = (o .0 ∙ sym (update-refused mode copy h g (r .number) update-is k), o .1 ∙ sym (copy-stays mode copy h g (r .number) update-is k))
+  unfolding Update stopCounts
+  update-refusal k = (o .0 ∙ sym (update-refused (s .mode) copy (s .hgv) (s .hgc) (r .number) update-is k), o .1 ∙ sym (copy-stays (s .mode) copy (s .hgv) (s .hgc) (r .number) update-is k))
 
 -- ---- the lookups
 

@@ -28,13 +28,13 @@ use Rattle.sizes.specs.Modes.{isFull}
 use Rattle.holdings.specs.laws.Storing.{all-grows}
 use Rattle.upkeep.specs.Holds.{Holds}
 use Rattle.importer.specs.declared.Imported.{Imported}
-use Rattle.importer.specs.Import.{judged, following, confirmed, numberOf, success, told}
+use Rattle.importer.specs.Import.{judged, following, confirmed, importNumber, success, hgcWritten}
 use Rattle.importer.specs.Promises.{Import}
 use Rattle.importer.specs.laws.Follows.{adds-up, holds-following, others-same, places-same}
 use Rattle.provider.specs.declared.Counted.{Counted}
 use Rattle.reading.specs.Promises.{ReadBack}
 use Rattle.demands.specs.laws.Read.{sentBack, sameCounts, read-answer, read-verdicts}
-use Rattle.demands.specs.History.{Handed, Imports}
+use Rattle.importer.specs.Handed.{Handed}
 use Rattle.demands.specs.laws.Imports.{number-0, done-is, register-is, hgc-is}
 use Rattle.demands.specs.Verdicts.{Verdicts}
 use Rattle.demands.specs.laws.Judging.{verdicts-only}
@@ -43,21 +43,21 @@ use Rattle.demands.specs.laws.Judging.{verdicts-only}
 record-at : (b : List ℕ) (i : ℕ) → i < usedIn b → partAt slotLength i b ≡ getD (records b) i []
 record-at b i l = sym (ap (λ (R : List (List ℕ)). getD R i []) (records-chop b) ∙ getD-chop slotLength (usedIn b) b i l)
 
-module _ (f : Handed) (register : List ℕ) (r : Imported) (b g : List ℕ) (o : Imports f register r b g) (z : r .number ≡ 0) where
+module _ (f : Handed) (register : List ℕ) (r : Imported) (b g : List ℕ) (o : Import f register r b g) (z : r .number ≡ 0) where
   abbrev from : List ℕ
   from = sender (f .hgv)
 
-  e : numberOf (f .mode) (f .reception) register (f .rows) (f .hgv) (f .hgc) ≡ 0
+  e : importNumber f register ≡ 0
   e = number-0 f register r b g o z
 
-  holds : Holds (slotsIn register) (following (f .mode) (f .reception) register (f .rows) (f .hgv)) b
-  holds = rw (register-is f register r b g o z) (holds-following (f .mode) (f .reception) register (f .rows) (f .hgv) (f .hgc) e)
+  holds : Holds (slotsIn register) (following f register) b
+  holds = rw (register-is f register r b g o z) (holds-following f register e)
 
   -- ---- the counts
 
   pub counts-add-up : r .taken + r .rejected ≡ number (count (f .hgv))
   unfolding success
-  counts-add-up = rw (done-is f register r b g o z) (adds-up (f .mode) (f .reception) register (f .rows) (f .hgv) (f .hgc) e)
+  counts-add-up = rw (done-is f register r b g o z) (adds-up f register e)
 
   -- ---- the register
 
@@ -69,7 +69,7 @@ module _ (f : Handed) (register : List ℕ) (r : Imported) (b g : List ℕ) (o :
   bytes-are = rw (holds .held) (holds .bytes)
 
   pub others-are : others from (records b) ≡ others from (records register)
-  others-are = rw (holds .held) (others-same (f .mode) (f .reception) register (f .rows) (f .hgv) (f .hgc) e)
+  others-are = rw (holds .held) (others-same f register e)
 
   -- incremental: no record goes
   used-grows : isFull (f .mode) ≡ false → usedIn register ≤ usedIn b
@@ -82,7 +82,7 @@ module _ (f : Handed) (register : List ℕ) (r : Imported) (b g : List ℕ) (o :
   places-are m i l k =
       let w : isFull (f .mode) ≡ false = rw m refl in
       record-at b i (omega (arith, used-grows w))
-      ∙ rw (holds .held) (places-same (f .mode) (f .reception) register (f .rows) (f .hgv) (f .hgc) e w i l (rw (← record-at register i l) k))
+      ∙ rw (holds .held) (places-same f register e w i l (rw (← record-at register i l) k))
       ∙ sym (record-at register i l)
 
   -- ---- by the verdicts of the lines
@@ -109,7 +109,7 @@ module _ (f : Handed) (register : List ℕ) (r : Imported) (b g : List ℕ) (o :
     length-is = ap (λ (a : Imported). a .length) (done-is f register r b g o z) ∙ rw judged-is
 
     pub buffer-is : g ≡ confirmation (f .reception) (f .hgv) vs ++ drop (r .length) (f .hgc)
-    unfolding told confirmed
+    unfolding hgcWritten confirmed
     buffer-is = hgc-is f register r b g o z ∙ rw (judged-is, length-is)
 
     -- ---- read back, by any outcome of it
@@ -118,6 +118,6 @@ module _ (f : Handed) (register : List ℕ) (r : Imported) (b g : List ℕ) (o :
       pub read-is : linesIn (f .hgv) ≤ length block → (u ≡ record { number = 0; taken = r .taken; rejected = r .rejected }) × (w ≡ vs ++ drop (linesIn (f .hgv)) block)
       unfolding Import ReadBack sentBack sameCounts
       read-is m = (
-        rw (p .0, o .1 .1, o .0) (read-answer (f .mode) (f .reception) register (f .rows) (f .hgv) (f .hgc) e block m),
-        rw (p .1, o .1 .1, o .0, ← judged-is) (read-verdicts (f .mode) (f .reception) register (f .rows) (f .hgv) (f .hgc) e block m),
+        rw (p .0, o .1 .1, o .0) (read-answer f register e block m),
+        rw (p .1, o .1 .1, o .0, ← judged-is) (read-verdicts f register e block m),
       )

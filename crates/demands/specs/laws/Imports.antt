@@ -7,38 +7,38 @@ use Rattle.theory.specs.laws.First.{decided, numbered}
 use Rattle.theory.specs.laws.Stopped.{number-kept}
 use Rattle.stops.specs.Stops.{callStops, fileStops, formStops}
 use Rattle.importer.specs.declared.Imported.{Imported}
-use Rattle.importer.specs.Import.{roomStops, stops, numberOf, refusal, success, written, told, answer}
+use Rattle.importer.specs.Import.{roomStops, stops, importNumber, refusal, success, registerWritten, hgcWritten, importAnswer}
 use Rattle.importer.specs.Promises.{Import}
 use Rattle.importer.specs.laws.Numbers.{stop-answer, stop-register, stop-hgc, done-answer, done-register, done-hgc}
-use Rattle.demands.specs.History.{Handed, Imports}
+use Rattle.importer.specs.Handed.{Handed}
 
-module _ (f : Handed) (register : List ℕ) (r : Imported) (b g : List ℕ) (o : Imports f register r b g) where
+module _ (f : Handed) (register : List ℕ) (r : Imported) (b g : List ℕ) (o : Import f register r b g) where
   -- the number answered is that of the first stop that holds
-  pub number-is : r .number ≡ numberOf (f .mode) (f .reception) register (f .rows) (f .hgv) (f .hgc)
-  unfolding Import answer success refusal
+  pub number-is : r .number ≡ importNumber f register
+  unfolding Import importAnswer success refusal
   number-is =
       ap (λ (a : Imported). a .number) (o .0)
-      ∙ number-kept (λ (a : Imported). a .number) (numberOf (f .mode) (f .reception) register (f .rows) (f .hgv) (f .hgc)) _ _ refl refl
+      ∙ number-kept (λ (a : Imported). a .number) (importNumber f register) _ _ refl refl
 
   -- and where it is 0 none does
-  pub number-decided : Decided (stops (f .mode) (f .reception) register (f .rows) (f .hgv) (f .hgc)) (r .number)
-  unfolding numberOf stops formStops callStops fileStops roomStops numbered
-  number-decided = decided (stops (f .mode) (f .reception) register (f .rows) (f .hgv) (f .hgc)) refl (r .number) number-is
+  pub number-decided : Decided (stops f register) (r .number)
+  unfolding importNumber stops formStops callStops fileStops roomStops numbered
+  number-decided = decided (stops f register) refl (r .number) number-is
 
   -- ---- a stop
 
   module _ (k : r .number ≡ 0 → ⊥) where
     pub refused-answer : r ≡ refusal (r .number)
     unfolding Import
-    refused-answer = o .0 ∙ sym (stop-answer (f .mode) (f .reception) register (f .rows) (f .hgv) (f .hgc) (r .number) number-is k)
+    refused-answer = o .0 ∙ sym (stop-answer f register (r .number) number-is k)
 
     pub refused-register : b ≡ register
     unfolding Import
-    refused-register = o .1 .0 ∙ sym (stop-register (f .mode) (f .reception) register (f .rows) (f .hgv) (f .hgc) (r .number) number-is k)
+    refused-register = o .1 .0 ∙ sym (stop-register f register (r .number) number-is k)
 
     pub refused-hgc : g ≡ f .hgc
     unfolding Import
-    refused-hgc = o .1 .1 ∙ sym (stop-hgc (f .mode) (f .reception) register (f .rows) (f .hgv) (f .hgc) (r .number) number-is k)
+    refused-hgc = o .1 .1 ∙ sym (stop-hgc f register (r .number) number-is k)
 
     pub refusal-is : (r ≡ record { number = r .number; taken = 0; rejected = 0; length = 0 }) × ((b ≡ register) × (g ≡ f .hgc))
     unfolding refusal
@@ -47,17 +47,17 @@ module _ (f : Handed) (register : List ℕ) (r : Imported) (b g : List ℕ) (o :
   -- ---- success
 
   module _ (z : r .number ≡ 0) where
-    pub number-0 : numberOf (f .mode) (f .reception) register (f .rows) (f .hgv) (f .hgc) ≡ 0
+    pub number-0 : importNumber f register ≡ 0
     number-0 = sym number-is ∙ z
 
-    pub done-is : r ≡ success (f .reception) register (f .rows) (f .hgv)
+    pub done-is : r ≡ success f register
     unfolding Import
-    done-is = o .0 ∙ sym (done-answer (f .mode) (f .reception) register (f .rows) (f .hgv) (f .hgc) number-0)
+    done-is = o .0 ∙ sym (done-answer f register number-0)
 
-    pub register-is : b ≡ written (f .mode) (f .reception) register (f .rows) (f .hgv)
+    pub register-is : b ≡ registerWritten f register
     unfolding Import
-    register-is = o .1 .0 ∙ sym (done-register (f .mode) (f .reception) register (f .rows) (f .hgv) (f .hgc) number-0)
+    register-is = o .1 .0 ∙ sym (done-register f register number-0)
 
-    pub hgc-is : g ≡ told (f .reception) register (f .rows) (f .hgv) (f .hgc)
+    pub hgc-is : g ≡ hgcWritten f register
     unfolding Import
-    hgc-is = o .1 .1 ∙ sym (done-hgc (f .mode) (f .reception) register (f .rows) (f .hgv) (f .hgc) number-0)
+    hgc-is = o .1 .1 ∙ sym (done-hgc f register number-0)

@@ -20,12 +20,13 @@ use Rattle.holdings.specs.Holdings.{holdings}
 use Rattle.upkeep.specs.Holds.{Holds}
 use Rattle.applying.specs.Fit.{Fit}
 use Rattle.applying.specs.laws.Follows.{follows}
-use Rattle.stops.specs.laws.Clear.{Clear}
-use Rattle.importer.specs.Import.{judged, following, numberOf, registerAfter}
+use Rattle.importer.specs.Handed.{Handed}
+use Rattle.importer.specs.Import.{judged, following, importNumber, registerAfter}
 use Rattle.importer.specs.laws.Accepted.{lines-his}
-use Rattle.importer.specs.laws.Numbers.{accepted-clear, done-register}
+use Rattle.importer.specs.laws.Numbers.{Formed, accepted-clear, done-register}
 use Rattle.importer.specs.laws.Follows.{fit, holds-following, others-same}
-use Rattle.updating.specs.Update.{ownHolds, copyStops, following as copied, roomStops, updateNumber, updateAnswer, updated, copyAfter}
+use Rattle.updating.specs.Sent.{Sent, sent}
+use Rattle.updating.specs.Update.{ownHolds, copyStops, copyFollowing, receiptStops, updateNumber, updateAnswer, copyWritten, copyAfter}
 use Rattle.demands.specs.laws.ReadBack.{reception-read, taken-are, hgc-cut}
 use Rattle.demands.specs.laws.Read.{sentBack, sameCounts, addressed-receiver, receipt-holds, counts-same}
 use Rattle.demands.specs.Own.{own}
@@ -35,80 +36,84 @@ use Rattle.demands.specs.laws.Own.{own-holdings, fit-own, own-others}
 abbrev pub Mirrors : List ℕ → List ℕ → List ℕ → Type 0
 Mirrors who register copy = Holds (slotsIn register) (own who (records register)) copy
 
-module _ (mode : ℕ) (reception register rows h hgc : List ℕ) (e : numberOf mode reception register rows h hgc ≡ 0) where
+module _ (f : Handed) (register : List ℕ) (e : importNumber f register ≡ 0) where
   -- the register after it
   abbrev after : List ℕ
-  after = registerAfter mode reception register rows h hgc
+  after = registerAfter f register
 
   -- is in order, and holds the records that follow
-  pub after-holds : Holds (slotsIn register) (following mode reception register rows h) after
-  after-holds = rw (← done-register mode reception register rows h hgc e) (holds-following mode reception register rows h hgc e)
+  pub after-holds : Holds (slotsIn register) (following f register) after
+  after-holds = rw (← done-register f register e) (holds-following f register e)
 
   -- ---- another's copy
 
   -- it mirrors the register as it did
-  pub another-mirrors : (who copy : List ℕ) → eqs (sender h) who ≡ false → Mirrors who register copy → Mirrors who after copy
+  pub another-mirrors : (who copy : List ℕ) → eqs (sender (f .hgv)) who ≡ false → Mirrors who register copy → Mirrors who after copy
   another-mirrors who copy d m =
-      rw (after-holds .many, after-holds .held, ← own-others who (sender h) (following mode reception register rows h) d, others-same mode reception register rows h hgc e, own-others who (sender h) (records register) d) m
+      rw (after-holds .many, after-holds .held, ← own-others who (sender (f .hgv)) (following f register) d, others-same f register e, own-others who (sender (f .hgv)) (records register) d) m
 
   -- ---- his own is updated
 
-  module _ (copy : List ℕ) (m : Mirrors (sender h) register copy) where
+  module _ (copy : List ℕ) (m : Mirrors (sender (f .hgv)) register copy) where
     -- the HGC that he gets
     abbrev g : List ℕ
-    g = sentBack mode reception register rows h hgc
+    g = sentBack f register
+
+    -- what he was sent
+    abbrev entry : Sent
+    entry = sent (f .mode) (f .hgv) g
 
     -- no stop from 21 to 32 was given
-    c : Clear mode reception register rows h
-    c = accepted-clear mode reception register rows h hgc e
+    c : Formed f register
+    c = accepted-clear f register e
 
     -- the taken lines
     abbrev ls : List (List ℕ)
-    ls = taken (judged register rows h) h
+    ls = taken (judged register (f .rows) (f .hgv)) (f .hgv)
 
     -- 51 is not given
-    his-own : ownHolds copy h ≡ true
+    his-own : ownHolds copy (f .hgv) ≡ true
     unfolding ownHolds own
-    his-own = rw (m .held) (passes-each (ofActor (sender h)) (sift-passes (ofActor (sender h)) (records register)))
+    his-own = rw (m .held) (passes-each (ofActor (sender (f .hgv))) (sift-passes (ofActor (sender (f .hgv))) (records register)))
 
     -- the records that follow in the copy, by the HGC's reception and the lines read off as taken
-    copied-is : copied mode copy h g ≡ holdings mode (sender h) (recordOf reception) (records copy) ls
-    unfolding copied sentBack
+    copied-is : copyFollowing entry copy ≡ holdings (f .mode) (sender (f .hgv)) (recordOf (f .reception)) (records copy) ls
+    unfolding copyFollowing sentBack
     copied-is =
         rw (
-          hgc-cut mode reception register rows h hgc e,
-          reception-read mode reception register rows h hgc e,
-          taken-are mode reception register rows h hgc e,
+          hgc-cut f register e,
+          reception-read f register e,
+          taken-are f register e,
         )
 
     -- are his of those that follow in the register
-    copied-own : copied mode copy h g ≡ own (sender h) (following mode reception register rows h)
+    copied-own : copyFollowing entry copy ≡ own (sender (f .hgv)) (following f register)
     unfolding following
     copied-own =
         copied-is
         ∙ rw (m .held)
-        (sym (own-holdings mode (sender h) (recordOf reception) (slotsIn register) (records register) ls (fit mode reception register rows h hgc e) (lines-his mode reception register rows h c)))
+        (sym (own-holdings (f .mode) (sender (f .hgv)) (recordOf (f .reception)) (slotsIn register) (records register) ls (fit f register e) (lines-his f register c)))
 
     -- the taken lines fit the copy
-    fit-copy : Fit mode (sender h) (recordOf reception) (slotsIn copy) (records copy) ls
+    fit-copy : Fit (f .mode) (sender (f .hgv)) (recordOf (f .reception)) (slotsIn copy) (records copy) ls
     fit-copy =
         rw (m .many, m .held)
-        (fit-own mode (sender h) (recordOf reception) (slotsIn register) (records register) ls (fit mode reception register rows h hgc e) (lines-his mode reception register rows h c))
+        (fit-own (f .mode) (sender (f .hgv)) (recordOf (f .reception)) (slotsIn register) (records register) ls (fit f register e) (lines-his f register c))
 
     -- so 33 is not given
-    room : length (copied mode copy h g) ≤ slotsIn copy
+    room : length (copyFollowing entry copy) ≤ slotsIn copy
     room = rw copied-is (fit-copy .room)
 
     -- and what follows is in order
-    copy-holds : Holds (slotsIn copy) (copied mode copy h g) (updated mode copy h g)
-    unfolding updated
-    copy-holds = rw copied-is (follows mode (sender h) (recordOf reception) copy ls (m .order) fit-copy)
+    copy-holds : Holds (slotsIn copy) (copyFollowing entry copy) (copyWritten entry copy)
+    unfolding copyWritten
+    copy-holds = rw copied-is (follows (f .mode) (sender (f .hgv)) (recordOf (f .reception)) copy ls (m .order) fit-copy)
 
     -- ---- the call
 
     -- no stop is given
-    pub update-number : updateNumber mode copy h g ≡ 0
-    unfolding updateNumber copyStops roomStops first choose
+    pub update-number : updateNumber entry copy ≡ 0
+    unfolding updateNumber copyStops receiptStops first choose
     update-number =
         rw (
           c .moded,
@@ -117,22 +122,22 @@ module _ (mode : ℕ) (reception register rows h hgc : List ℕ) (e : numberOf m
           c .headed,
           c .versioned,
           c .fitting,
-          addressed-receiver rows h (c .sent),
+          addressed-receiver (f .rows) (f .hgv) (c .sent),
           his-own,
           c .counted,
           c .footed,
           c .framed,
-          receipt-holds mode reception register rows h hgc e,
-          le-ltb (slotsIn copy) (length (copied mode copy h g)) room,
+          receipt-holds f register e,
+          le-ltb (slotsIn copy) (length (copyFollowing entry copy)) room,
         )
 
     -- 0, and the import's own counts
-    pub update-answer : updateAnswer mode copy h g ≡ sameCounts mode reception register rows h hgc
+    pub update-answer : updateAnswer entry copy ≡ sameCounts f register
     unfolding updateAnswer
-    update-answer = at-success (updateNumber mode copy h g) _ _ update-number ∙ counts-same mode reception register rows h hgc e
+    update-answer = at-success (updateNumber entry copy) _ _ update-number ∙ counts-same f register e
 
     -- his copy mirrors the register again
-    pub update-mirrors : Mirrors (sender h) after (copyAfter mode copy h g)
+    pub update-mirrors : Mirrors (sender (f .hgv)) after (copyAfter entry copy)
     unfolding copyAfter
     update-mirrors =
-        rw (at-success (updateNumber mode copy h g) (updated mode copy h g) copy update-number, after-holds .many, after-holds .held, ← copied-own, ← m .many) copy-holds
+        rw (at-success (updateNumber entry copy) (copyWritten entry copy) copy update-number, after-holds .many, after-holds .held, ← copied-own, ← m .many) copy-holds

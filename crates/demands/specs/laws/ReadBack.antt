@@ -23,8 +23,8 @@ use Rattle.numbers.specs.laws.Number.{number-2, number-15}
 use Rattle.times.specs.laws.Moment.{real-length}
 use Rattle.columns.specs.Columns.{text, panOf}
 use Rattle.hgv.specs.Layout.{widthOf, linesIn, linesOf}
-use Rattle.sizes.specs.Sizes.{lineLength, linesMost}
-use Rattle.hgv.specs.laws.Layout.{length-lines, each-lined, lines-most}
+use Rattle.sizes.specs.Sizes.{linesMost}
+use Rattle.hgv.specs.laws.Layout.{width-has, length-lines, each-line, lines-most}
 use Rattle.frames.specs.Frames.{framed, framesHold}
 use Rattle.frames.specs.laws.Frames.{framed-is}
 use Rattle.header.specs.Header.{sender}
@@ -34,10 +34,10 @@ use Rattle.verdicts.specs.Verdict.{ownRules, verdict, verdictsOf, fileVerdicts,
 use Rattle.verdicts.specs.laws.Verdict.{verdict-is, verdict-most}
 use Rattle.hgc.specs.Confirmation.{answers}
 use Rattle.hgc.specs.laws.Fields.{reasons-answers}
-use Rattle.stops.specs.laws.Clear.{Clear}
-use Rattle.importer.specs.Import.{judged, confirmed, numberOf, success, told, answer, hgcAfter}
+use Rattle.importer.specs.Handed.{Handed}
+use Rattle.importer.specs.Import.{judged, confirmed, importNumber, success, hgcWritten, importAnswer, hgcAfter}
 use Rattle.importer.specs.laws.Accepted.{verdict-each, lines-hold, lines-his, lines-apart}
-use Rattle.importer.specs.laws.Numbers.{accepted-clear, done-answer, done-hgc}
+use Rattle.importer.specs.laws.Numbers.{Formed, accepted-clear, done-answer, done-hgc}
 use Rattle.theory.specs.Firsts.{firsts}
 use Rattle.pairing.specs.laws.Pairing.{mark, pick-marked, told-is}
 use Rattle.pairing.specs.laws.Firsts.{marks-is, left-is}
@@ -57,108 +57,112 @@ unfoldable pub line : List ℕ → List ℕ
 line t = 49 ∷ (t ++ (10 ∷ []))
 
 -- where a line is framed
-pub line-is : (l : List ℕ) → (framed lineLength l ≡ true) × (length l ≡ lineLength) → line (text l) ≡ l
+pub line-is : (w : ℕ) → 3 ≤ w → (l : List ℕ) → (framed w l ≡ true) × (length l ≡ w) → line (text w l) ≡ l
 unfolding line
-line-is l (f, n) = sym (framed-is lineLength l f n (omega arith))
+line-is w o l (f, n) = sym (framed-is w l f n o)
 
 -- lines in their frames are made of their texts
 pub lines-made : (h : List ℕ) → framesHold h ≡ true → map line (textsOf h) ≡ linesOf h
-unfolding framesHold textsOf widthOf
+unfolding framesHold textsOf
 lines-made h f =
-    map-map line text (linesOf h) ∙ map-fixed (λ l. line (text l)) (each-map line-is (each-both (each-passes (framed lineLength) (linesOf h) f) (each-lined h)))
+    let w : ℕ = widthOf h in
+    map-map line (text w) (linesOf h) ∙ map-fixed (λ l. line (text w l)) (each-map (line-is w (width-has h 3 (omega arith))) (each-both (each-passes (framed w) (linesOf h) f) (each-line h)))
 
-module _ (mode : ℕ) (reception register rows h hgc : List ℕ) (e : numberOf mode reception register rows h hgc ≡ 0) where
+module _ (f : Handed) (register : List ℕ) (e : importNumber f register ≡ 0) where
   -- the verdicts, and the HGC
   abbrev vs : List ℕ
-  vs = judged register rows h
+  vs = judged register (f .rows) (f .hgv)
 
   abbrev g : List ℕ
-  g = confirmed reception register rows h
+  g = confirmed f register
 
   abbrev judge : List (List ℕ) → List ℕ → ℕ
-  judge = verdict rows (sender h) (records register)
+  judge = verdict (f .rows) (sender (f .hgv)) (records register)
 
-  c : Clear mode reception register rows h
-  c = accepted-clear mode reception register rows h hgc e
+  c : Formed f register
+  c = accepted-clear f register e
 
-  dated : length reception ≡ 14
-  dated = real-length reception (c .received)
+  dated : length (f .reception) ≡ 14
+  dated = real-length (f .reception) (c .received)
 
-  one-each : length vs ≡ linesIn h
-  one-each = verdict-each mode reception register rows h c vs refl
+  one-each : length vs ≡ linesIn (f .hgv)
+  one-each = verdict-each f register c vs refl
 
-  one-text : length vs ≡ length (textsOf h)
+  wide : 3 ≤ widthOf (f .hgv)
+  wide = width-has (f .hgv) 3 (omega arith)
+
+  one-text : length vs ≡ length (textsOf (f .hgv))
   unfolding textsOf
-  one-text = one-each ∙ sym (length-map (linesOf h) text ∙ length-lines h)
+  one-text = one-each ∙ sym (length-map (linesOf (f .hgv)) (text (widthOf (f .hgv))) ∙ length-lines (f .hgv))
 
   -- the reception that the HGC names is the import's
-  pub reception-read : receptionOf g ≡ reception
+  pub reception-read : receptionOf g ≡ (f .reception)
   unfolding confirmed
-  reception-read = reception-is reception h vs dated (c .sized) one-each
+  reception-read = reception-is (f .reception) (f .hgv) vs dated (c .sized) one-each
 
   -- ---- which lines were taken
 
   -- of equal texts only the first was taken, or none
-  pub taken-firsts : firsts (textsOf h) vs ≡ true
+  pub taken-firsts : firsts (textsOf (f .hgv)) vs ≡ true
   unfolding judged fileVerdicts verdictsOf
   taken-firsts =
-      rw (← lines-made h (c .framed))
-      (lines-first judge line (λ l. first (ownRules rows (sender h) (records register) l)) panOf (judges rows (sender h) (records register)) (textsOf h))
+      rw (← lines-made (f .hgv) (c .framed))
+      (lines-first judge line (λ l. first (ownRules (f .rows) (sender (f .hgv)) (records register) l)) panOf (judges (f .rows) (sender (f .hgv)) (records register)) (textsOf (f .hgv)))
 
   -- so the HGC's copies say of each line whether it was taken
-  pub marks-are : marksOf h g ≡ map mark vs
+  pub marks-are : marksOf (f .hgv) g ≡ map mark vs
   unfolding marksOf confirmed
-  marks-are = rw (copies-of reception h vs dated (c .sized) one-each) (marks-is (textsOf h) vs one-text taken-firsts)
+  marks-are = rw (copies-of (f .reception) (f .hgv) vs dated (c .sized) one-each) (marks-is (textsOf (f .hgv)) vs one-text taken-firsts)
 
   -- the lines read off as taken are those that were
-  pub taken-are : takenBy h g ≡ taken vs h
+  pub taken-are : takenBy (f .hgv) g ≡ taken vs (f .hgv)
   unfolding takenBy taken
-  taken-are = rw marks-are (pick-marked vs (linesOf h))
+  taken-are = rw marks-are (pick-marked vs (linesOf (f .hgv)))
 
   -- the copies are the lines left
-  pub copies-hold : copiesHold h g ≡ true
+  pub copies-hold : copiesHold (f .hgv) g ≡ true
   unfolding copiesHold confirmed
   copies-hold =
-      rw (copies-of reception h vs dated (c .sized) one-each, left-is (textsOf h) vs one-text taken-firsts) (same-texts (pick bad vs (textsOf h)))
+      rw (copies-of (f .reception) (f .hgv) vs dated (c .sized) one-each, left-is (textsOf (f .hgv)) vs one-text taken-firsts) (same-texts (pick bad vs (textsOf (f .hgv))))
 
   -- ---- the counts
 
   -- as many lines as good verdicts, and as bad ones
-  pub count-taken : length (takenBy h g) ≡ tally good vs
+  pub count-taken : length (takenBy (f .hgv) g) ≡ tally good vs
   unfolding taken
-  count-taken = ap length taken-are ∙ tally-pick good vs (linesOf h) (omega (arith, one-each, length-lines h))
+  count-taken = ap length taken-are ∙ tally-pick good vs (linesOf (f .hgv)) (omega (arith, one-each, length-lines (f .hgv)))
 
-  pub count-rejected : answersIn g ≡ tally bad vs
+  pub count-rejected : answersIn (f .hgv) g ≡ tally bad vs
   unfolding confirmed
-  count-rejected = answers-in reception h vs dated (c .sized) one-each
+  count-rejected = answers-in (f .reception) (f .hgv) vs dated (c .sized) one-each
 
   few : tally good vs + tally bad vs ≤ linesMost
-  few = omega (arith, tallies vs, one-each, lines-most h (c .sized))
+  few = omega (arith, tallies vs, one-each, lines-most (f .hgv) (c .sized))
 
   -- fifteen digits are enough for both
-  taken-told : number (takenOf g) ≡ length (takenBy h g)
+  taken-told : number (takenOf g) ≡ length (takenBy (f .hgv) g)
   unfolding confirmed
-  taken-told = ap number (taken-of reception h vs dated (c .sized) one-each) ∙ number-15 (tally good vs) (omega (arith, few)) ∙ sym count-taken
+  taken-told = ap number (taken-of (f .reception) (f .hgv) vs dated (c .sized) one-each) ∙ number-15 (tally good vs) (omega (arith, few)) ∙ sym count-taken
 
-  rejected-told : number (rejectedOf g) ≡ answersIn g
+  rejected-told : number (rejectedOf g) ≡ answersIn (f .hgv) g
   unfolding confirmed
-  rejected-told = ap number (rejected-of reception h vs dated (c .sized) one-each) ∙ number-15 (tally bad vs) (omega (arith, few)) ∙ sym count-rejected
+  rejected-told = ap number (rejected-of (f .reception) (f .hgv) vs dated (c .sized) one-each) ∙ number-15 (tally bad vs) (omega (arith, few)) ∙ sym count-rejected
 
   -- and the header says so
-  pub counts-hold : countsHold h g ≡ true
+  pub counts-hold : countsHold (f .hgv) g ≡ true
   unfolding countsHold
-  counts-hold = rw (eq-eqb (number (takenOf g)) (length (takenBy h g)) taken-told, eq-eqb (number (rejectedOf g)) (answersIn g) rejected-told)
+  counts-hold = rw (eq-eqb (number (takenOf g)) (length (takenBy (f .hgv) g)) taken-told, eq-eqb (number (rejectedOf g)) (answersIn (f .hgv) g) rejected-told)
 
   -- ---- the reasons
 
   -- each is one that an HGC may name
-  pub reasons-hold : each reasonHolds (answersOf g) ≡ true
+  pub reasons-hold : each (reasonHolds (widthOf (f .hgv))) (answersOf (f .hgv) g) ≡ true
   unfolding confirmed judged fileVerdicts verdictsOf
   reasons-hold =
-      rw (answers-of reception h vs dated (c .sized) one-each)
-      (passes-each reasonHolds
-      (each-answered reason-holds
-      (each-verdict judge (verdict-named rows (sender h) (records register)) [] (linesOf h)) (each-lined h)))
+      rw (answers-of (f .reception) (f .hgv) vs dated (c .sized) one-each)
+      (passes-each (reasonHolds (widthOf (f .hgv)))
+      (each-answered (widthOf (f .hgv)) wide (reason-holds (widthOf (f .hgv)))
+      (each-verdict judge (verdict-named (f .rows) (sender (f .hgv)) (records register)) [] (linesOf (f .hgv))) (each-line (f .hgv))))
 
   -- two digits are enough for each
   reasons-read : map (λ v. number (decimal 2 v)) (pick bad vs vs) ≡ pick bad vs vs
@@ -166,44 +170,44 @@ module _ (mode : ℕ) (reception register rows h hgc : List ℕ) (e : numberOf m
   reasons-read =
       map-fixed (λ v. number (decimal 2 v))
       (each-picked bad
-      (each-verdict judge (λ ts l b. number-2 _ (omega (arith, verdict-most rows (sender h) (records register) l ts))) [] (linesOf h)))
+      (each-verdict judge (λ ts l b. number-2 _ (omega (arith, verdict-most (f .rows) (sender (f .hgv)) (records register) l ts))) [] (linesOf (f .hgv))))
 
   -- they are the verdicts of the lines rejected
-  pub reasons-are : map (λ a. number (reasonOf a)) (answersOf g) ≡ pick bad vs vs
+  pub reasons-are : map (λ a. number (reasonOf (widthOf (f .hgv)) a)) (answersOf (f .hgv) g) ≡ pick bad vs vs
   unfolding confirmed
   reasons-are =
-      rw (answers-of reception h vs dated (c .sized) one-each)
-      (sym (map-map number (field 128 129) (answers vs (linesOf h)))
-      ∙ ap (map number) (reasons-answers vs (each-lined h) (omega (arith, one-each, length-lines h)))
+      rw (answers-of (f .reception) (f .hgv) vs dated (c .sized) one-each)
+      (sym (map-map number (reasonOf (widthOf (f .hgv))) (answers (widthOf (f .hgv)) vs (linesOf (f .hgv))))
+      ∙ ap (map number) (reasons-answers (widthOf (f .hgv)) wide vs (each-line (f .hgv)) (omega (arith, one-each, length-lines (f .hgv))))
       ∙ map-map number (decimal 2) (pick bad vs vs)
       ∙ reasons-read)
 
   -- ---- the lines taken
 
   -- each has the sender for its actor, and keeps the rules of a record
-  taken-lines : each (lineHolds h) (taken vs h) ≡ true
+  taken-lines : each (lineHolds (f .hgv)) (taken vs (f .hgv)) ≡ true
   taken-lines =
-      passes-each (lineHolds h)
-      (each-map (λ l k. line-holds h l (k .0) (k .1))
-      (each-both (lines-his mode reception register rows h c) (lines-hold mode reception register rows h c)))
+      passes-each (lineHolds (f .hgv))
+      (each-map (λ l k. line-holds (f .hgv) l (k .0) (k .1))
+      (each-both (lines-his f register c) (lines-hold f register c)))
 
   -- no two share a PAN, and each holds
-  pub taken-hold : takenHold h g ≡ true
+  pub taken-hold : takenHold (f .hgv) g ≡ true
   unfolding takenHold
-  taken-hold = rw (taken-are, lines-apart mode reception register rows h c) taken-lines
+  taken-hold = rw (taken-are, lines-apart f register c) taken-lines
 
   -- ---- the whole
 
   -- 52 is not given
-  pub receipt : receiptHolds h g ≡ true
+  pub receipt : receiptHolds (f .hgv) g ≡ true
   unfolding receiptHolds saysHold linesHold confirmed
   receipt =
       rw (
-        form-holds reception h vs dated (c .sized) one-each,
-        names-hold reception h vs dated (c .sized) one-each,
+        form-holds (f .reception) (f .hgv) vs dated (c .sized) one-each,
+        names-hold (f .reception) (f .hgv) vs dated (c .sized) one-each,
         reception-read,
         c .received,
-        outcome-holds reception h vs dated (c .sized) one-each,
+        outcome-holds (f .reception) (f .hgv) vs dated (c .sized) one-each,
         reasons-hold,
         copies-hold,
         counts-hold,
@@ -211,16 +215,16 @@ module _ (mode : ℕ) (reception register rows h hgc : List ℕ) (e : numberOf m
       )
 
   -- the same lines, the same reasons
-  pub read-back : readVerdicts h g ≡ vs
+  pub read-back : readVerdicts (f .hgv) g ≡ vs
   unfolding readVerdicts reasonsOf
   read-back = rw (marks-are, reasons-are) (told-is vs)
 
   -- the HGC's buffer after the import, cut at the HGC's length
-  pub hgc-front : take (length g) (hgcAfter mode reception register rows h hgc) ≡ g
-  unfolding told
-  hgc-front = rw (← done-hgc mode reception register rows h hgc e) (take-append-seam g (drop (length g) hgc))
+  pub hgc-front : take (length g) (hgcAfter f register) ≡ g
+  unfolding hgcWritten
+  hgc-front = rw (← done-hgc f register e) (take-append-seam g (drop (length g) (f .hgc)))
 
   -- that length is the one that the import returns
-  pub hgc-cut : take (answer mode reception register rows h hgc .length) (hgcAfter mode reception register rows h hgc) ≡ g
+  pub hgc-cut : take (importAnswer f register .length) (hgcAfter f register) ≡ g
   unfolding success
-  hgc-cut = rw (← done-answer mode reception register rows h hgc e) hgc-front
+  hgc-cut = rw (← done-answer f register e) hgc-front

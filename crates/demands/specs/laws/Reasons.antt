@@ -14,6 +14,7 @@ use Rattle.numbers.specs.Number.{decimal}
 use Rattle.lines.specs.Rules.{lineRules}
 use Rattle.verdicts.specs.Verdict.{ownRules, verdictRules, verdict}
 use Rattle.hgc.specs.Confirmation.{answer}
+use Rattle.hgc.specs.laws.Confirmation.{Holding}
 use Rattle.hgc.specs.laws.Fields.{answer-reason}
 use Rattle.receipts.specs.Receipt.{reasonHolds}
 
@@ -32,6 +33,6 @@ module _ (rows from : List ℕ) (R taken : List (List ℕ)) (l : List ℕ) where
   verdict-named = first-passes named (verdictRules rows from R taken l) rules-named
 
 -- as an answer's reason
-pub reason-holds : (v : ℕ) (l : List ℕ) → named v ≡ true → 127 ≤ length l → reasonHolds (answer v l) ≡ true
+pub reason-holds : (w v : ℕ) (l : List ℕ) → named v ≡ true → Holding w l → reasonHolds w (answer w v l) ≡ true
 unfolding reasonHolds named
-reason-holds v l e h = rw (answer-reason v l h) e
+reason-holds w v l e h = rw (answer-reason w v l h) e

@@ -25,12 +25,14 @@ use Rattle.upkeep.specs.Holds.{Holds}
 use Rattle.importer.specs.declared.Imported.{Imported}
 use Rattle.importer.specs.Promises.{Import}
 use Rattle.provider.specs.declared.Counted.{Counted}
+use Rattle.updating.specs.Sent.{sent}
 use Rattle.updating.specs.Promises.{Update}
 use Rattle.updating.specs.laws.Outcomes.{update-one}
 use Rattle.demands.specs.laws.Read.{sentBack, sameCounts}
 use Rattle.demands.specs.Own.{own}
 use Rattle.demands.specs.laws.Mirror.{Mirrors, after-holds, another-mirrors, update-answer, update-mirrors}
-use Rattle.demands.specs.History.{Handed, Imports, Entry, apply, Event, acceptance, concerns, his, entries, answers, empty, Ours, start, accepted, refused, Replay, applied}
+use Rattle.importer.specs.Handed.{Handed}
+use Rattle.demands.specs.History.{Entry, apply, Event, acceptance, concerns, his, entries, answers, empty, Ours, start, accepted, refused, Replay, applied}
 use Rattle.demands.specs.laws.Imports.{number-0, refused-register}
 
 -- ---- at the start
@@ -57,29 +59,29 @@ start-holds n m =
 
 -- ---- one import
 
-module _ (f : Handed) (register : List ℕ) (r : Imported) (b g : List ℕ) (o : Imports f register r b g) (z : r .number ≡ 0) where
+module _ (f : Handed) (register : List ℕ) (r : Imported) (b g : List ℕ) (o : Import f register r b g) (z : r .number ≡ 0) where
   -- the register after it is in order, of as many slots
   pub after-order : inOrder b ≡ true
   unfolding Import
-  after-order = rw (o .1 .0) (after-holds (f .mode) (f .reception) register (f .rows) (f .hgv) (f .hgc) (number-0 f register r b g o z) .order)
+  after-order = rw (o .1 .0) (after-holds f register (number-0 f register r b g o z) .order)
 
   pub after-many : slotsIn b ≡ slotsIn register
   unfolding Import
-  after-many = rw (o .1 .0) (after-holds (f .mode) (f .reception) register (f .rows) (f .hgv) (f .hgc) (number-0 f register r b g o z) .many)
+  after-many = rw (o .1 .0) (after-holds f register (number-0 f register r b g o z) .many)
 
   -- the copy of another mirrors it as it was
   pub another-step : (who copy : List ℕ) → eqs (sender (f .hgv)) who ≡ false → Mirrors who register copy → Mirrors who b copy
   unfolding Import
-  another-step who copy d m = rw (o .1 .0) (another-mirrors (f .mode) (f .reception) register (f .rows) (f .hgv) (f .hgc) (number-0 f register r b g o z) who copy d m)
+  another-step who copy d m = rw (o .1 .0) (another-mirrors f register (number-0 f register r b g o z) who copy d m)
 
   -- the sender's, updated by what was sent back, mirrors it again, and the update answered the import's own counts
-  pub applied-step : (copy : List ℕ) → Mirrors (sender (f .hgv)) register copy → (u : Counted) (c : List ℕ) → Update (f .mode) copy (f .hgv) (take (r .length) g) u c
+  pub applied-step : (copy : List ℕ) → Mirrors (sender (f .hgv)) register copy → (u : Counted) (c : List ℕ) → Update (sent (f .mode) (f .hgv) (take (r .length) g)) copy u c
       → Mirrors (sender (f .hgv)) b c × (u ≡ acceptance f r g .counted)
   unfolding Import Update sentBack sameCounts acceptance
   applied-step copy m u c (a, s) =
       let e = number-0 f register r b g o z in
       rw (o .1 .0, a, s, o .1 .1, o .0)
-      (update-mirrors (f .mode) (f .reception) register (f .rows) (f .hgv) (f .hgc) e copy m, update-answer (f .mode) (f .reception) register (f .rows) (f .hgv) (f .hgc) e copy m)
+      (update-mirrors f register e copy m, update-answer f register e copy m)
 
 -- ---- every sequence
 
@@ -100,7 +102,7 @@ start-stands n who m =
     let s : Holds n [] (empty n) = start-holds n m in
     record { order = s .order; many = s .many; replayed = λ copy us p. rw (s .held) (none-replayed m p) }
 
-module _ {n : ℕ} {who register : List ℕ} {es : List Event} (s : Stands n who register es) (f : Handed) (r : Imported) (b g : List ℕ) (o : Imports f register r b g) where
+module _ {n : ℕ} {who register : List ℕ} {es : List Event} (s : Stands n who register es) (f : Handed) (r : Imported) (b g : List ℕ) (o : Import f register r b g) where
   -- an accepted file, his or another's
   module _ (z : r .number ≡ 0) where
     accepted-replayed : (t : Bool) → eqs (sender (f .hgv)) who ≡ t → (copy : List ℕ) (us : List Counted)
@@ -141,13 +143,13 @@ pub replay-one : {n : ℕ} {es : List Entry} {c c′ : List ℕ} {us us′ : Lis
 replay-one start start = (refl, refl)
 replay-one (applied {copy = copy} p s u c o) (applied {copy = copy′} p′ s′ u′ c′ o′) =
     let e = replay-one p p′ in
-    let d = update-one (s .mode) copy (s .hgv) (s .hgc) u u′ c c′ o (rw (← e .0) at o′) in
+    let d = update-one s copy u u′ c c′ o (rw (← e .0) at o′) in
     (d .1, rw (d .0, e .1))
 
 -- ---- there are such sequences
 
 -- it goes on whatever is handed over next, and whatever of the outcomes that the contract admits comes of it
-pub goes-on : {n : ℕ} {register : List ℕ} {es : List Event} → Ours n register es → (f : Handed) (r : Imported) (b g : List ℕ) → Imports f register r b g
+pub goes-on : {n : ℕ} {register : List ℕ} {es : List Event} → Ours n register es → (f : Handed) (r : Imported) (b g : List ℕ) → Import f register r b g
     → (vs : List Event) × Ours n b vs
 goes-on {n} {es = es} s f r b g o = go (eqb (r .number) 0) refl
   where

@@ -2,7 +2,7 @@
 use native.Mathlib.Omega.{arith}
 use borrow.Author.Needs.{needs}
 use Rattle.hgv.specs.laws.Layout.{length-least}
-use Rattle.hgc.proofs.Laws.{lines-fit, foot-fits, written}
+use Rattle.hgc.proofs.Laws.{answers-fit, foot-fits, written}
 use Rattle.hgc.proofs.write.Statement.{statement}
 use Rattle.hgc.proofs.write.Tie as tie
 
@@ -11,28 +11,29 @@ put-names-requires c κs = let p = c .before .before .before .before .before .pr
 
 put-answers-requires : tie.Need-put-answers-requires
 put-answers-requires c κs =
-    let p = c .before .before .before .before .before .before .before .before .before .before .before .before .before .before .pre in
-    (lines-fit _ _ _ (c .body .ensures) (p .1 .1 .0), omega arith)
+    let p = c .before .before .before .before .before .before .before .before .before .before .before .before .before .before .before .pre in
+    answers-fit _ _ _ _ _ _ (c .before .body .ensures) (c .width .ensures) (p .1 .1 .0) (p .1 .1 .1 .1 .0) (p .1 .1 .1 .1 .1) _ (omega arith)
 
 put-foot-requires : tie.Need-put-foot-requires
 put-foot-requires c κs =
     let b = c .before .before .before .before in
-    let p = b .before .before .before .before .before .before .before .before .before .before .before .before .before .before .pre in
-    foot-fits _ _ _ _ _ _ (b .body .ensures) (c .before .before .before .put-answers .ensures) (p .1 .1 .0) (omega arith)
+    let p = b .before .before .before .before .before .before .before .before .before .before .before .before .before .before .before .pre in
+    foot-fits _ _ _ _ _ _ _ (b .before .body .ensures) (b .width .ensures) (c .before .before .before .put-answers .ensures) (p .1 .1 .0) _ _ (p .1 .1 .1 .1 .0) (p .1 .1 .1 .1 .1) (omega arith)
 
 returns : tie.Need-returns
 returns c =
     let a = c .before .before .before .before .before .before in
-    let f = a .before .before .before .before .before .before .before .before .before in
+    let f = a .before .before .before .before .before .before .before .before .before .before in
     let p = f .before .before .before .before .before .before .pre in
-    written _ _ _ _ _ _ (a .before .body .ensures) (a .put-answers .ensures) (p .1 .1 .0) _ _ _ _ _ _ (p .0) (p .1 .0) (p .1 .1 .1 .0) (p .1 .1 .1 .1 .0) (p .1 .1 .1 .1 .1)
-    (f .put-names .ensures) (a .before .before .before .before .before .put-counts .ensures) (c .before .before .put-foot .ensures)
+    written _ _ _ _ _ _ _ (a .before .before .body .ensures) (a .before .width .ensures) (a .put-answers .ensures) (p .1 .1 .0) _ _ _ _ _ _ (p .0) (p .1 .0) (p .1 .1 .1 .0) (p .1 .1 .1 .1 .0) (p .1 .1 .1 .1 .1)
+    (f .put-names .ensures) (a .before .before .before .before .before .before .put-counts .ensures) (c .before .before .put-foot .ensures)
 
 pub write-spec : {M : Type 1} → statement M
 write-spec =
     tie.close
     (tie.spec
     put-names-requires
+    (λ c κs. search needs)
     (λ c κs. search needs)
     (λ c κs. search needs)
     put-answers-requires

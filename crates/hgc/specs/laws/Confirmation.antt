@@ -2,7 +2,7 @@
 use mathlib.Core.Path.{_≡_, refl, sym, ap, _∙_}
 use mathlib.Core.Bool.{true}
 use mathlib.Core.List.{List, [], _∷_, _++_}
-use Prim.Native.Nat.{ℕ, zero, suc, _*_, _≤_, _<_}
+use Prim.Native.Nat.{ℕ, zero, suc, _*_, _-_, _≤_, _<_}
 use native.Mathlib.Omega.{arith}
 use lib.ListN.{length, getD, length-append, length-replicate}
 use Rattle.theory.specs.laws.Count.{bump-and-le}
@@ -17,15 +17,15 @@ use Rattle.texts.specs.laws.Field.{field-length}
 use Rattle.numbers.specs.Number.{decimal}
 use Rattle.numbers.specs.laws.Number.{length-decimal}
 use Rattle.columns.specs.Columns.{text}
-use Rattle.hgv.specs.Layout.{linesIn, lengthHolds, linesOf}
-use Rattle.sizes.specs.Sizes.{lineLength, footerLength, hgcHeaderLength}
-use Rattle.hgv.specs.laws.Layout.{length-lines, each-lined, length-least}
+use Rattle.hgv.specs.Layout.{widthOf, linesIn, lengthHolds, linesOf}
+use Rattle.sizes.specs.Sizes.{footerLength, hgcHeaderLength}
+use Rattle.hgv.specs.laws.Layout.{width-has, length-lines, each-line, length-least}
 use Rattle.header.specs.Header.{sender, listSequence}
 use Rattle.hgc.specs.Confirmation.{answerLength, confirmationLength, zeros, outcome, names, counts, head, answer, answers, foot, confirmation}
 
 -- what there is of a line: its answer, and nothing where it was not rejected
-unfoldable pub said : ℕ → List ℕ → List ℕ
-said v l = flat (onto (bad v) (answer v l) [])
+unfoldable pub said : ℕ → ℕ → List ℕ → List ℕ
+said w v l = flat (onto (bad v) (answer w v l) [])
 
 pub length-zeros : (n : ℕ) → length (zeros n) ≡ n
 unfolding zeros
@@ -70,66 +70,67 @@ length-foot = simp length-append (omega (arith, length-zeros 62))
 
 -- ---- the answers
 
-pub length-answer : (v : ℕ) (l : List ℕ) → 127 ≤ length l → length (answer v l) ≡ answerLength
-unfolding answer
-length-answer v l h =
-    let t : length (text l) ≡ 126 = field-length 2 127 l (omega arith) h in
-    simp length-append (omega (arith, length-decimal 2 v))
+-- a line that its text lies within
+abbrev pub Holding : ℕ → List ℕ → Type 0
+Holding w l = (3 ≤ w) × (w - 1 ≤ length l)
 
-pub each-answer : (vs : List ℕ) {ls : List (List ℕ)} → Each (λ l. length l ≡ lineLength) ls → Each (λ a. length a ≡ answerLength) (answers vs ls)
+pub length-text : (w : ℕ) (l : List ℕ) → Holding w l → length (text w l) ≡ w - 2
+length-text w l (o, h) = field-length 2 (w - 1) l (omega arith) h ∙ omega arith
+
+pub answers-none : (w : ℕ) (vs : List ℕ) → answers w vs [] ≡ []
 unfolding answers
-each-answer [] h = none
-each-answer (v ∷ vs) none = none
-each-answer (v ∷ vs) (more h hs) = each-onto (bad v) _ _ (λ e. length-answer v _ (omega arith)) (each-answer vs hs)
+answers-none w [] = refl
+answers-none w (v ∷ vs) = refl
 
-pub answers-none : (vs : List ℕ) → answers vs [] ≡ []
-unfolding answers
-answers-none [] = refl
-answers-none (v ∷ vs) = refl
+module _ (w : ℕ) where
+  pub length-answer : (v : ℕ) (l : List ℕ) → Holding w l → length (answer w v l) ≡ answerLength w
+  unfolding answer
+  length-answer v l h = simp length-append (omega (arith, length-text w l h, length-decimal 2 v, h .0))
 
--- one for each bad verdict
-pub count-answers : (vs : List ℕ) (ls : List (List ℕ)) → length vs ≡ length ls → length (answers vs ls) ≡ tally bad vs
-unfolding answers tally
-count-answers [] [] h = refl
-count-answers [] (l ∷ ls) h = absurd (omega arith)
-count-answers (v ∷ vs) [] h = absurd (omega arith)
-count-answers (v ∷ vs) (l ∷ ls) h = length-onto (bad v) (answer v l) (answers vs ls) ∙ rw (count-answers vs ls (omega arith))
+  -- one for each bad verdict
+  pub count-answers : (vs : List ℕ) (ls : List (List ℕ)) → length vs ≡ length ls → length (answers w vs ls) ≡ tally bad vs
+  unfolding answers tally
+  count-answers [] [] h = refl
+  count-answers [] (l ∷ ls) h = absurd (omega arith)
+  count-answers (v ∷ vs) [] h = absurd (omega arith)
+  count-answers (v ∷ vs) (l ∷ ls) h = length-onto (bad v) (answer w v l) (answers w vs ls) ∙ rw (count-answers vs ls (omega arith))
 
--- and no more, however many lines there are
-pub answers-most : (vs : List ℕ) (ls : List (List ℕ)) → length (answers vs ls) ≤ tally bad vs
-unfolding answers tally
-answers-most [] ls = omega arith
-answers-most (v ∷ vs) [] = omega arith
-answers-most (v ∷ vs) (l ∷ ls) = rw (length-onto (bad v) (answer v l) (answers vs ls)) (bump-and-le true (bad v) _ _ (answers-most vs ls))
+  -- and no more, however many lines there are
+  pub answers-most : (vs : List ℕ) (ls : List (List ℕ)) → length (answers w vs ls) ≤ tally bad vs
+  unfolding answers tally
+  answers-most [] ls = omega arith
+  answers-most (v ∷ vs) [] = omega arith
+  answers-most (v ∷ vs) (l ∷ ls) = rw (length-onto (bad v) (answer w v l) (answers w vs ls)) (bump-and-le true (bad v) _ _ (answers-most vs ls))
 
--- one more line at the end
-pub answers-next : (vs : List ℕ) (ls : List (List ℕ)) (v : ℕ) (l : List ℕ) → length vs ≡ length ls → answers (vs ++ v ∷ []) (ls ++ l ∷ []) ≡ answers vs ls ++ onto (bad v) (answer v l) []
-unfolding answers
-answers-next [] [] v l h = refl
-answers-next [] (k ∷ ls) v l h = absurd (omega arith)
-answers-next (u ∷ vs) [] v l h = absurd (omega arith)
-answers-next (u ∷ vs) (k ∷ ls) v l h = rw (answers-next vs ls v l (omega arith)) (sym (onto-append (bad u) (answer u k) (answers vs ls) (onto (bad v) (answer v l) [])))
+  -- one more line at the end, where there are verdicts enough
+  pub answers-more : (vs : List ℕ) (ls : List (List ℕ)) (l : List ℕ) → length ls < length vs
+      → answers w vs (ls ++ l ∷ []) ≡ answers w vs ls ++ onto (bad (getD vs (length ls) 0)) (answer w (getD vs (length ls) 0) l) []
+  unfolding answers
+  answers-more [] ls l h = absurd (omega arith)
+  answers-more (v ∷ []) [] l h = refl
+  answers-more (v ∷ u ∷ vs) [] l h = refl
+  answers-more (v ∷ vs) (k ∷ ls) l h =
+      rw (answers-more vs ls l (omega arith)) (sym (onto-append (bad v) (answer w v k) (answers w vs ls) (onto (bad (getD vs (length ls) 0)) (answer w (getD vs (length ls) 0) l) [])))
 
--- the same, where there are verdicts enough
-pub answers-more : (vs : List ℕ) (ls : List (List ℕ)) (l : List ℕ) → length ls < length vs
-    → answers vs (ls ++ l ∷ []) ≡ answers vs ls ++ onto (bad (getD vs (length ls) 0)) (answer (getD vs (length ls) 0) l) []
-unfolding answers
-answers-more [] ls l h = absurd (omega arith)
-answers-more (v ∷ []) [] l h = refl
-answers-more (v ∷ u ∷ vs) [] l h = refl
-answers-more (v ∷ vs) (k ∷ ls) l h =
-    rw (answers-more vs ls l (omega arith)) (sym (onto-append (bad v) (answer v k) (answers vs ls) (onto (bad (getD vs (length ls) 0)) (answer (getD vs (length ls) 0) l) [])))
+  -- the lines of a file
+  module _ (wide : 3 ≤ w) where
+    pub each-answer : (vs : List ℕ) {ls : List (List ℕ)} → Each (λ l. length l ≡ w) ls → Each (λ a. length a ≡ answerLength w) (answers w vs ls)
+    unfolding answers
+    each-answer [] h = none
+    each-answer (v ∷ vs) none = none
+    each-answer (v ∷ vs) (more h hs) = each-onto (bad v) _ _ (λ e. length-answer v _ (wide, omega arith)) (each-answer vs hs)
 
-pub length-answers : (vs : List ℕ) {ls : List (List ℕ)} → Each (λ l. length l ≡ lineLength) ls → length (flat (answers vs ls)) ≡ length (answers vs ls) * answerLength
-length-answers vs h = length-flat answerLength (each-answer vs h)
+    pub length-answers : (vs : List ℕ) {ls : List (List ℕ)} → Each (λ l. length l ≡ w) ls → length (flat (answers w vs ls)) ≡ length (answers w vs ls) * answerLength w
+    length-answers vs h = length-flat (answerLength w) (each-answer vs h)
 
 -- ---- the whole
 
 pub length-confirmation : (reception h vs : List ℕ) → length reception ≡ 14 → lengthHolds h ≡ true → length vs ≡ linesIn h
-    → length (confirmation reception h vs) ≡ confirmationLength (tally bad vs)
+    → length (confirmation reception h vs) ≡ confirmationLength (widthOf h) (tally bad vs)
 unfolding confirmation
 length-confirmation reception h vs d e n =
+    let w : ℕ = widthOf h in
     let a : length (head reception h (tally good vs) (tally bad vs)) ≡ hgcHeaderLength = length-head reception h (tally good vs) (tally bad vs) d (omega (arith, length-least h e)) in
-    let c : length (answers vs (linesOf h)) ≡ tally bad vs = count-answers vs (linesOf h) (omega (arith, length-lines h)) in
-    let b : length (flat (answers vs (linesOf h))) ≡ tally bad vs * answerLength = length-answers vs (each-lined h) ∙ ap (λ (k : ℕ). k * answerLength) c in
+    let c : length (answers w vs (linesOf h)) ≡ tally bad vs = count-answers w vs (linesOf h) (omega (arith, length-lines h)) in
+    let b : length (flat (answers w vs (linesOf h))) ≡ tally bad vs * answerLength w = length-answers w (width-has h 3 (omega arith)) vs (each-line h) ∙ ap (λ (k : ℕ). k * answerLength w) c in
     simp length-append (omega (arith, length-foot))

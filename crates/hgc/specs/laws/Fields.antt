@@ -2,7 +2,7 @@
 use mathlib.Core.Path.{_≡_, refl, _∙_}
 use mathlib.Core.Bool.{true}
 use mathlib.Core.List.{List, [], _∷_, _++_, map}
-use Prim.Native.Nat.{ℕ, _-_, _≤_}
+use Prim.Native.Nat.{ℕ, _+_, _-_, _≤_}
 use native.Mathlib.Omega.{arith}
 use lib.ListN.{length, length-append}
 use Rattle.theory.specs.Text.{bytes}
@@ -16,11 +16,10 @@ use Rattle.texts.specs.laws.Field.{field-length, field-before, field-behind, fi
 use Rattle.numbers.specs.Number.{decimal}
 use Rattle.numbers.specs.laws.Number.{length-decimal}
 use Rattle.columns.specs.Columns.{text}
-use Rattle.sizes.specs.Sizes.{lineLength}
 use Rattle.frames.specs.Frames.{footerForm}
 use Rattle.header.specs.Header.{sender, listSequence}
 use Rattle.hgc.specs.Confirmation.{zeros, outcome, names, counts, head, answer, answers, foot}
-use Rattle.hgc.specs.laws.Confirmation.{length-zeros, length-outcome, length-names}
+use Rattle.hgc.specs.laws.Confirmation.{Holding, length-zeros, length-outcome, length-names, length-text}
 
 -- ---- the header
 
@@ -164,65 +163,65 @@ module _ (reception h : List ℕ) (taken rejected : ℕ) (dated : length recepti
   unfolding counts toOutcome toFiller toVersion toRejected
   head-end = in-counts 110 110 (omega arith) ∙ field-last 64 64 63 toOutcome lineEnd size-to-outcome refl refl
 
--- ---- an answer
+-- ---- an answer, to a line of width w
 
-module _ (v : ℕ) (l : List ℕ) (long : 127 ≤ length l) where
-  size-text : length (text l) ≡ 126
-  size-text = field-length 2 127 l (omega arith) long
-
+module _ (w v : ℕ) (l : List ℕ) (holding : Holding w l) where
   -- up to the text, and up to the reason
   toText : List ℕ
-  toText = bytes "1" ++ text l
+  toText = bytes "1" ++ text w l
 
   toReason : List ℕ
   toReason = toText ++ decimal 2 v
 
-  size-to-text : length toText ≡ 127
+  size-to-text : length toText ≡ w - 1
   unfolding toText
-  size-to-text = omega (arith, size-text)
+  size-to-text = omega (arith, length-text w l holding, holding .0)
 
-  size-to-reason : length toReason ≡ 129
+  size-to-reason : length toReason ≡ w + 1
   unfolding toReason
-  size-to-reason = length-append toText (decimal 2 v) ∙ rw (size-to-text, length-decimal 2 v)
+  size-to-reason = length-append toText (decimal 2 v) ∙ rw (size-to-text, length-decimal 2 v) (omega (arith, holding .0))
 
-  in-reason : (a b : ℕ) → 1 ≤ a → a ≤ b → b ≤ 129 → field a b (answer v l) ≡ field a b toReason
+  in-reason : (a b : ℕ) → 1 ≤ a → a ≤ b → b ≤ w + 1 → field a b (answer w v l) ≡ field a b toReason
   unfolding answer toReason toText
   in-reason a b o k m = field-before a b toReason lineEnd o k (omega (arith, size-to-reason))
 
-  pub answer-type : field 1 1 (answer v l) ≡ bytes "1"
+  pub answer-type : field 1 1 (answer w v l) ≡ bytes "1"
   unfolding answer field
   answer-type = refl
 
   -- the text as it was sent
-  pub answer-text : text (answer v l) ≡ text l
+  pub answer-text : text w (answer w v l) ≡ text w l
   unfolding toReason toText
   answer-text =
-      in-reason 2 127 (omega arith) (omega arith) (omega arith)
-      ∙ field-before 2 127 toText (decimal 2 v) (omega arith) (omega arith) (omega (arith, size-to-text))
-      ∙ field-last 2 127 1 (bytes "1") (text l) refl refl (omega (arith, size-text))
+      in-reason 2 (w - 1) (omega arith) (omega (arith, holding .0)) (omega arith)
+      ∙ field-before 2 (w - 1) toText (decimal 2 v) (omega arith) (omega (arith, holding .0)) (omega (arith, size-to-text))
+      ∙ field-last 2 (w - 1) 1 (bytes "1") (text w l) refl refl (omega (arith, length-text w l holding, holding .0))
 
-  pub answer-reason : field 128 129 (answer v l) ≡ decimal 2 v
+  pub answer-reason : field w (w + 1) (answer w v l) ≡ decimal 2 v
   unfolding toReason
-  answer-reason = in-reason 128 129 (omega arith) (omega arith) (omega arith) ∙ field-last 128 129 127 toText (decimal 2 v) size-to-text refl (omega (arith, length-decimal 2 v))
+  answer-reason =
+      in-reason w (w + 1) (omega (arith, holding .0)) (omega arith) (omega arith)
+      ∙ field-last w (w + 1) (w - 1) toText (decimal 2 v) size-to-text (omega (arith, holding .0)) (omega (arith, length-decimal 2 v, holding .0))
 
-  pub answer-end : field 130 130 (answer v l) ≡ lineEnd
+  pub answer-end : field (w + 2) (w + 2) (answer w v l) ≡ lineEnd
   unfolding answer toReason toText
-  answer-end = field-last 130 130 129 toReason lineEnd size-to-reason refl refl
+  answer-end = field-last (w + 2) (w + 2) (w + 1) toReason lineEnd size-to-reason (omega arith) (omega arith)
 
--- the texts are those of the rejected lines
-pub texts-answers : (vs : List ℕ) {ls : List (List ℕ)} → Each (λ l. length l ≡ lineLength) ls → map text (answers vs ls) ≡ pick bad vs (map text ls)
-unfolding answers pick
-texts-answers [] h = refl
-texts-answers (v ∷ vs) none = refl
-texts-answers (v ∷ vs) (more {x} {xs} h hs) = map-onto text (bad v) (answer v x) (answers vs xs) ∙ rw (answer-text v x (omega arith), texts-answers vs hs)
+module _ (w : ℕ) (wide : 3 ≤ w) where
+  -- the texts are those of the rejected lines
+  pub texts-answers : (vs : List ℕ) {ls : List (List ℕ)} → Each (λ l. length l ≡ w) ls → map (text w) (answers w vs ls) ≡ pick bad vs (map (text w) ls)
+  unfolding answers pick
+  texts-answers [] h = refl
+  texts-answers (v ∷ vs) none = refl
+  texts-answers (v ∷ vs) (more {x} {xs} h hs) = map-onto (text w) (bad v) (answer w v x) (answers w vs xs) ∙ rw (answer-text w v x (wide, omega arith), texts-answers vs hs)
 
--- and the reasons their verdicts
-pub reasons-answers : (vs : List ℕ) {ls : List (List ℕ)} → Each (λ l. length l ≡ lineLength) ls → length vs ≡ length ls → map (field 128 129) (answers vs ls) ≡ map (decimal 2) (pick bad vs vs)
-unfolding answers pick
-reasons-answers [] h e = refl
-reasons-answers (v ∷ vs) none e = absurd (omega arith)
-reasons-answers (v ∷ vs) (more {x} {xs} h hs) e =
-    rw (map-onto (field 128 129) (bad v) (answer v x) (answers vs xs), map-onto (decimal 2) (bad v) v (pick bad vs vs), answer-reason v x (omega arith), reasons-answers vs hs (omega arith))
+  -- and the reasons their verdicts
+  pub reasons-answers : (vs : List ℕ) {ls : List (List ℕ)} → Each (λ l. length l ≡ w) ls → length vs ≡ length ls → map (field w (w + 1)) (answers w vs ls) ≡ map (decimal 2) (pick bad vs vs)
+  unfolding answers pick
+  reasons-answers [] h e = refl
+  reasons-answers (v ∷ vs) none e = absurd (omega arith)
+  reasons-answers (v ∷ vs) (more {x} {xs} h hs) e =
+      rw (map-onto (field w (w + 1)) (bad v) (answer w v x) (answers w vs xs), map-onto (decimal 2) (bad v) v (pick bad vs vs), answer-reason w v x (wide, omega arith), reasons-answers vs hs (omega arith))
 
 -- ---- the footer
 

@@ -9,5 +9,5 @@ pub write-one : (hgc reception h vs : List ℕ) (taken rejected : ℕ) (r s : Li
     → Write hgc reception h vs taken rejected r → Write hgc reception h vs taken rejected s → r ≡ s
 write-one hgc reception h vs taken rejected r s = one-outcome
 
-pub length-for-one : (rejected r s : ℕ) → LengthFor rejected r → LengthFor rejected s → r ≡ s
-length-for-one rejected r s = one-outcome
+pub length-for-one : (w rejected r s : ℕ) → LengthFor w rejected r → LengthFor w rejected s → r ≡ s
+length-for-one w rejected r s = one-outcome

@@ -1,5 +1,5 @@
 -- Laws of the layout and the lines, for those who read an HGV. Assumes nothing.
-use mathlib.Core.Path.{_≡_, refl}
+use mathlib.Core.Path.{_≡_}
 use mathlib.Core.Bool.{Bool, true, _&&_}
 use mathlib.Core.List.{List}
 use Prim.Native.Nat.{ℕ, _+_, _*_, _%_, _≤_}
@@ -12,7 +12,7 @@ use Rattle.theory.specs.laws.Truth.{and-left, and-right}
 use Rattle.theory.specs.laws.Parts.{length-chop}
 use Rattle.theory.specs.Each.{Each}
 use Rattle.theory.specs.laws.Join.{each-chop}
-use Rattle.sizes.specs.Sizes.{headerLength, lineLength, footerLength, linesMost}
+use Rattle.sizes.specs.Sizes.{headerLength, lineLength, lineMost, footerLength, linesMost}
 use Rattle.hgv.specs.Layout.{bodyLength, widthOf, linesIn, lengthHolds, body, linesOf}
 
 -- the three tests of the length
@@ -25,16 +25,19 @@ lined h = eqb (bodyLength h % widthOf h) 0
 abbrev few : List ℕ → Bool
 few h = leb (linesIn h) linesMost
 
+-- a width that lines may have: every column of the document's table has its place, and none is wider
+abbrev pub IsWidth : ℕ → Type 0
+IsWidth w = (lineLength ≤ w) × (w ≤ lineMost)
+
 module _ (h : List ℕ) where
   -- every column of the document's table has its place in a line
   pub width-least : lineLength ≤ widthOf h
   unfolding widthOf
   width-least = omega arith
 
-  -- every version has lines of one width
-  pub width-is : widthOf h ≡ lineLength
+  pub is-width : IsWidth (widthOf h)
   unfolding widthOf
-  width-is = refl
+  is-width = (omega arith, omega arith)
 
   pub width-has : (k : ℕ) → k ≤ lineLength → k ≤ widthOf h
   width-has k l = omega (arith, width-least)
@@ -55,9 +58,6 @@ module _ (h : List ℕ) where
   pub each-line : Each (λ l. length l ≡ widthOf h) (linesOf h)
   unfolding linesOf
   each-line = each-chop (widthOf h) (linesIn h) (body h) lines-room
-
-  pub each-lined : Each (λ l. length l ≡ lineLength) (linesOf h)
-  each-lined = rw width-is at each-line
 
   module _ (e : lengthHolds h ≡ true) where
     pub length-least : headerLength + footerLength ≤ length h

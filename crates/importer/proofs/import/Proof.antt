@@ -3,6 +3,7 @@ use Rattle.importer.specs.Promises.{Import}
 use mathlib.Core.Path.{sym, _∙_}
 use native.Mathlib.Omega.{arith}
 use Rattle.stops.specs.laws.Clear.{clear}
+use Rattle.importer.specs.Handed.{handed}
 use Rattle.importer.specs.laws.Numbers.{number-form, stop-answer, stop-register, stop-hgc}
 use lib.Seq.{length-take-le}
 use Rattle.applying.specs.laws.Sought.{no-places}
@@ -14,9 +15,11 @@ use Rattle.importer.proofs.import.Tie as tie
 returns : tie.Need-returns
 unfolding Import
 returns c =
+    let a = c .before .before .before .before .before .before .before .before .before .args in
+    let f = handed (a .mode) (a .reception .now) (a .rows .now) (a .hgv .now) (a .hgc .now) in
     let k = c .before .if1 .taken in
-    let n = number-form _ _ _ _ _ _ _ (c .before .before .form-stop .ensures) k in
-    (c .refused .ensures ∙ stop-answer _ _ _ _ _ _ _ n k, (stop-register _ _ _ _ _ _ _ n k, stop-hgc _ _ _ _ _ _ _ n k))
+    let n = number-form f _ _ (c .before .before .form-stop .ensures) k in
+    (c .refused .ensures ∙ stop-answer f _ _ n k, (stop-register f _ _ n k, stop-hgc f _ _ n k))
 
 array-borrow-prefix-verdicts : tie.Need-array-borrow-prefix-verdicts
 array-borrow-prefix-verdicts c = lines-in-most _ _ _ _ _ _ (c .before .before .before .before .form-stop .ensures) (c .before .before .before .if1 .left) _ (c .before .before .lines-in .ensures)

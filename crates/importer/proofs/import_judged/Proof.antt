@@ -1,6 +1,7 @@
 -- Assumes nothing.
 use Rattle.importer.specs.Promises.{Import}
 use mathlib.Core.Path.{sym, _∙_}
+use Rattle.importer.specs.Handed.{handed}
 use Rattle.importer.specs.laws.Numbers.{number-room, stop-answer, stop-register, stop-hgc, done-answer, done-register, done-hgc}
 use Rattle.importer.proofs.Laws.{taken-most, rest-rejected, as-many, accepts}
 use borrow.Author.Needs.{needs}
@@ -12,28 +13,36 @@ sub-rejected c = taken-most _ _ (c .count-taken .ensures)
 
 room-stop-requires : tie.Need-room-stop-requires
 room-stop-requires c κs =
+    let a = c .before .before .before .before .before .before .before .before .before .before .before .args in
+    let f = handed (a .mode) (a .reception .now) (a .rows .now) (a .hgv .now) (a .hgc .now) in
     let (clear, (verdicts, (many, _))) = c .before .before .before .before .before .before .before .before .before .before .before .pre in
-    (clear, (verdicts, (rest-rejected _ _ (c .before .before .before .count-taken .ensures), as-many _ _ _ _ _ _ clear verdicts _ many)))
+    (clear, (verdicts, (rest-rejected _ _ (c .before .before .before .count-taken .ensures), as-many f _ _ clear verdicts _ many)))
 
 returns : tie.Need-returns
 unfolding Import
 returns c =
-    let n = number-room _ _ _ _ _ _ (c .before .before .before .before .before .before .before .before .before .before .before .before .before .before .before .before .pre .0) _ (c .before .before .before .before .room-stop .ensures .0) in
+    let a = c .before .before .before .before .before .before .before .before .before .before .before .before .before .before .before .before .args in
+    let f = handed (a .mode) (a .reception .now) (a .rows .now) (a .hgv .now) (a .hgc .now) in
+    let n = number-room f _ (c .before .before .before .before .before .before .before .before .before .before .before .before .before .before .before .before .pre .0) _ (c .before .before .before .before .room-stop .ensures .0) in
     let k = c .before .if1 .taken in
-    (c .refused .ensures ∙ stop-answer _ _ _ _ _ _ _ n k, (stop-register _ _ _ _ _ _ _ n k, stop-hgc _ _ _ _ _ _ _ n k))
+    (c .refused .ensures ∙ stop-answer f _ _ n k, (stop-register f _ _ n k, stop-hgc f _ _ n k))
 
 carry-out-requires : tie.Need-carry-out-requires
 carry-out-requires c κs =
+    let a = c .before .before .before .before .before .before .before .before .before .before .before .before .before .before .before .before .before .before .args in
+    let f = handed (a .mode) (a .reception .now) (a .rows .now) (a .hgv .now) (a .hgc .now) in
     let (clear, (verdicts, (many, none))) = c .before .before .before .before .before .before .before .before .before .before .before .before .before .before .before .before .before .before .pre in
     let (stopped, placed) = c .before .before .before .before .before .before .room-stop .ensures in
-    accepts _ _ _ _ _ _ clear verdicts _ _ none many placed _ _ (c .before .before .before .before .before .before .before .before .before .before .count-taken .ensures) _ stopped (c .before .before .before .if1 .left)
+    accepts f _ _ clear verdicts _ _ none many placed _ (c .before .before .before .before .before .before .before .before .before .before .count-taken .ensures) _ stopped (c .before .before .before .if1 .left)
 
 returns-2 : tie.Need-returns-2
 unfolding Import
 returns-2 c =
-    let n = sym (number-room _ _ _ _ _ _ (c .before .before .before .before .before .before .before .before .before .before .before .before .before .before .before .before .before .before .before .before .before .before .before .pre .0) _ (c .before .before .before .before .before .before .before .before .before .before .before .room-stop .ensures .0)) ∙ c .before .before .before .before .before .before .before .before .if1 .left in
+    let a = c .before .before .before .before .before .before .before .before .before .before .before .before .before .before .before .before .before .before .before .before .before .before .before .args in
+    let f = handed (a .mode) (a .reception .now) (a .rows .now) (a .hgv .now) (a .hgc .now) in
+    let n = sym (number-room f _ (c .before .before .before .before .before .before .before .before .before .before .before .before .before .before .before .before .before .before .before .before .before .before .before .pre .0) _ (c .before .before .before .before .before .before .before .before .before .before .before .room-stop .ensures .0)) ∙ c .before .before .before .before .before .before .before .before .if1 .left in
     let (answered, (stored, confirmed)) = c .before .before .before .before .carry-out .ensures in
-    (answered ∙ done-answer _ _ _ _ _ _ n, (stored ∙ done-register _ _ _ _ _ _ n, confirmed ∙ done-hgc _ _ _ _ _ _ n))
+    (answered ∙ done-answer f _ n, (stored ∙ done-register f _ n, confirmed ∙ done-hgc f _ n))
 
 pub import-judged-spec : {M : Type 1} → statement M
 import-judged-spec =

@@ -34,74 +34,75 @@ use Rattle.upkeep.specs.laws.Makes.{record-makes}
 use Rattle.applying.specs.Fit.{Sought}
 use Rattle.holdings.specs.Room.{usedAfter}
 use Rattle.holdings.specs.laws.Room.{used-after}
-use Rattle.stops.specs.laws.Clear.{Clear}
+use Rattle.importer.specs.Handed.{Handed}
 use Rattle.importer.specs.Import.{judged, following, confirmed}
+use Rattle.importer.specs.laws.Numbers.{Formed}
 
-module _ (mode : ℕ) (reception register rows h : List ℕ) (c : Clear mode reception register rows h) where
+module _ (f : Handed) (register : List ℕ) (c : Formed f register) where
   -- ---- the taken lines
 
   abbrev ls : List (List ℕ)
-  ls = taken (judged register rows h) h
+  ls = taken (judged register (f .rows) (f .hgv)) (f .hgv)
 
-  faultless : Each (Faultless rows (sender h)) ls
+  faultless : Each (Faultless (f .rows) (sender (f .hgv))) ls
   unfolding judged
-  faultless = each-faultless rows (records register) h
+  faultless = each-faultless (f .rows) (records register) (f .hgv)
 
   -- they meet the rules of a record, and are the sender's
   pub lines-hold : Each (λ l. recordHolds l ≡ true) ls
-  lines-hold = each-map (λ l f. faultless-record rows (sender h) l f (header-sender h (c .headed))) faultless
+  lines-hold = each-map (λ l k. faultless-record (f .rows) (sender (f .hgv)) l k (header-sender (f .hgv) (c .headed))) faultless
 
-  pub lines-his : Each (λ l. ofActor (sender h) l ≡ true) ls
+  pub lines-his : Each (λ l. ofActor (sender (f .hgv)) l ≡ true) ls
   unfolding ofActor L2
-  lines-his = each-map (λ l f. f .l2) faultless
+  lines-his = each-map (λ l k. k .l2) faultless
 
   -- no two have one PAN, and no other actor holds it
   pub lines-apart : distinct (map panOf ls) ≡ true
   unfolding judged
-  lines-apart = taken-apart rows (records register) h
+  lines-apart = taken-apart (f .rows) (records register) (f .hgv)
 
-  pub lines-free : Each (λ l. heldByAnother (panOf l) (sender h) (records register) ≡ false) ls
+  pub lines-free : Each (λ l. heldByAnother (panOf l) (sender (f .hgv)) (records register) ≡ false) ls
   unfolding judged
-  lines-free = each-free rows (records register) h
+  lines-free = each-free (f .rows) (records register) (f .hgv)
 
   -- their records have their PANs and actors
-  pub lines-made : Each (Makes (recordOf reception)) ls
-  lines-made = each-map (λ l r. record-makes reception (c .received) l r) lines-hold
+  pub lines-made : Each (Makes (recordOf (f .reception))) ls
+  lines-made = each-map (λ l r. record-makes (f .reception) (c .received) l r) lines-hold
 
   -- the number of records that follow, as it is reckoned
-  pub following-used : usedAfter mode (sender h) (records register) ls ≡ length (following mode reception register rows h)
+  pub following-used : usedAfter (f .mode) (sender (f .hgv)) (records register) ls ≡ length (following f register)
   unfolding following
   following-used =
-      used-after (recordOf reception) mode (sender h) (records register) ls (each-map (λ l m. m .pan) lines-made) lines-apart
+      used-after (recordOf (f .reception)) (f .mode) (sender (f .hgv)) (records register) ls (each-map (λ l m. m .pan) lines-made) lines-apart
 
   -- ---- as the code has them: vs are the verdicts
 
-  module _ (vs : List ℕ) (e : vs ≡ judged register rows h) where
-    pub verdict-each : length vs ≡ linesIn h
+  module _ (vs : List ℕ) (e : vs ≡ judged register (f .rows) (f .hgv)) where
+    pub verdict-each : length vs ≡ linesIn (f .hgv)
     unfolding judged
-    verdict-each = ap length e ∙ length-verdicts rows (records register) h
+    verdict-each = ap length e ∙ length-verdicts (f .rows) (records register) (f .hgv)
 
-    pub lines-there : length vs * widthOf h ≤ length (body h)
-    lines-there = rw verdict-each (lines-room h)
+    pub lines-there : length vs * widthOf (f .hgv) ≤ length (body (f .hgv))
+    lines-there = rw verdict-each (lines-room (f .hgv))
 
     pub verdicts-most : length vs ≤ linesMost
-    verdicts-most = omega (arith, verdict-each, lines-most h (c .sized))
+    verdicts-most = omega (arith, verdict-each, lines-most (f .hgv) (c .sized))
 
     -- the lines that the body's parts are
-    pub lines-are : takenIn (widthOf h) vs (body h) ≡ ls
+    pub lines-are : takenIn (widthOf (f .hgv)) vs (body (f .hgv)) ≡ ls
     unfolding taken linesOf
     lines-are = rw (verdict-each, e)
 
-    pub confirmed-length : (r : ℕ) → r ≡ tally bad vs → length (confirmed reception register rows h) ≡ confirmationLength r
+    pub confirmed-length : (r : ℕ) → r ≡ tally bad vs → length (confirmed f register) ≡ confirmationLength (widthOf (f .hgv)) r
     unfolding confirmed
-    confirmed-length r f = rw (← e, f) (length-confirmation reception h vs (real-length reception (c .received)) (c .sized) verdict-each)
+    confirmed-length r k = rw (← e, k) (length-confirmation (f .reception) (f .hgv) vs (real-length (f .reception) (c .received)) (c .sized) verdict-each)
 
 -- the file's form is right, its lines are judged, and there is room for what follows
-pub record Accepted (mode : ℕ) (reception register rows h hgc vs : List ℕ) (t r : ℕ) (found : List ℕ) : Type 0 where
-  pub clear : Clear mode reception register rows h
-  pub verdicts : vs ≡ judged register rows h
+pub record Accepted (f : Handed) (register vs : List ℕ) (t r : ℕ) (found : List ℕ) : Type 0 where
+  pub clear : Formed f register
+  pub verdicts : vs ≡ judged register (f .rows) (f .hgv)
   pub taken-are : t ≡ tally good vs
   pub rejected-are : r ≡ tally bad vs
-  pub slots : length (following mode reception register rows h) ≤ slotsIn register
-  pub buffer : length (confirmed reception register rows h) ≤ length hgc
-  pub sought : Sought mode (records register) (widthOf h) (body h) vs found
+  pub slots : length (following f register) ≤ slotsIn register
+  pub buffer : length (confirmed f register) ≤ length (f .hgc)
+  pub sought : Sought (f .mode) (records register) (widthOf (f .hgv)) (body (f .hgv)) vs found

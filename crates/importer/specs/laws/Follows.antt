@@ -23,42 +23,42 @@ use Rattle.upkeep.specs.Holds.{Holds}
 use Rattle.applying.specs.Fit.{Fit}
 use Rattle.applying.specs.laws.Follows.{follows}
 use Rattle.applying.specs.laws.Others.{others-stay, places-stay}
-use Rattle.stops.specs.laws.Clear.{Clear}
-use Rattle.importer.specs.Import.{judged, following, numberOf, written}
+use Rattle.importer.specs.Handed.{Handed}
+use Rattle.importer.specs.Import.{judged, following, importNumber, registerWritten}
 use Rattle.importer.specs.laws.Accepted.{lines-made, lines-his, lines-apart, lines-free}
-use Rattle.importer.specs.laws.Numbers.{accepted-clear, accepted-room}
+use Rattle.importer.specs.laws.Numbers.{Formed, accepted-clear, accepted-room}
 
-module _ (mode : ℕ) (reception register rows h hgc : List ℕ) (e : numberOf mode reception register rows h hgc ≡ 0) where
-  c : Clear mode reception register rows h
-  c = accepted-clear mode reception register rows h hgc e
+module _ (f : Handed) (register : List ℕ) (e : importNumber f register ≡ 0) where
+  c : Formed f register
+  c = accepted-clear f register e
 
   -- T7
-  pub adds-up : tally good (judged register rows h) + tally bad (judged register rows h) ≡ number (count h)
+  pub adds-up : tally good (judged register (f .rows) (f .hgv)) + tally bad (judged register (f .rows) (f .hgv)) ≡ number (count (f .hgv))
   unfolding judged countHolds
-  adds-up = taken-rejected rows (records register) h ∙ sym (eqb-true (number (count h)) (linesIn h) (c .counted))
+  adds-up = taken-rejected (f .rows) (records register) (f .hgv) ∙ sym (eqb-true (number (count (f .hgv))) (linesIn (f .hgv)) (c .counted))
 
-  pub fit : Fit mode (sender h) (recordOf reception) (slotsIn register) (records register) (taken (judged register rows h) h)
+  pub fit : Fit (f .mode) (sender (f .hgv)) (recordOf (f .reception)) (slotsIn register) (records register) (taken (judged register (f .rows) (f .hgv)) (f .hgv))
   unfolding following
   fit =
       record {
-        made = lines-made mode reception register rows h c;
-        apart = lines-apart mode reception register rows h c;
-        free = lines-free mode reception register rows h c;
-        room = accepted-room mode reception register rows h hgc e .slots;
+        made = lines-made f register c;
+        apart = lines-apart f register c;
+        free = lines-free f register c;
+        room = accepted-room f register e .slots;
       }
 
   -- in order, and the records are those that follow
-  pub holds-following : Holds (slotsIn register) (following mode reception register rows h) (written mode reception register rows h)
-  unfolding following written
-  holds-following = follows mode (sender h) (recordOf reception) register (taken (judged register rows h) h) (c .ordered) fit
+  pub holds-following : Holds (slotsIn register) (following f register) (registerWritten f register)
+  unfolding following registerWritten
+  holds-following = follows (f .mode) (sender (f .hgv)) (recordOf (f .reception)) register (taken (judged register (f .rows) (f .hgv)) (f .hgv)) (c .ordered) fit
 
   -- the other providers' records are the same sequence
-  pub others-same : others (sender h) (following mode reception register rows h) ≡ others (sender h) (records register)
+  pub others-same : others (sender (f .hgv)) (following f register) ≡ others (sender (f .hgv)) (records register)
   unfolding following
-  others-same = others-stay mode (sender h) (recordOf reception) (slotsIn register) (records register) (taken (judged register rows h) h) fit (lines-his mode reception register rows h c)
+  others-same = others-stay (f .mode) (sender (f .hgv)) (recordOf (f .reception)) (slotsIn register) (records register) (taken (judged register (f .rows) (f .hgv)) (f .hgv)) fit (lines-his f register c)
 
   -- in mode 1 also in the same slots
-  pub places-same : isFull mode ≡ false → (i : ℕ) → i < length (records register) → ofActor (sender h) (getD (records register) i []) ≡ false
-      → getD (following mode reception register rows h) i [] ≡ getD (records register) i []
+  pub places-same : isFull (f .mode) ≡ false → (i : ℕ) → i < length (records register) → ofActor (sender (f .hgv)) (getD (records register) i []) ≡ false
+      → getD (following f register) i [] ≡ getD (records register) i []
   unfolding following
-  places-same = places-stay mode (sender h) (recordOf reception) (slotsIn register) (records register) (taken (judged register rows h) h) fit (lines-his mode reception register rows h c)
+  places-same = places-stay (f .mode) (sender (f .hgv)) (recordOf (f .reception)) (slotsIn register) (records register) (taken (judged register (f .rows) (f .hgv)) (f .hgv)) fit (lines-his f register c)

@@ -12,78 +12,83 @@ use Rattle.theory.specs.laws.Stopped.{at-stop, at-success, by-first, by-second,
 use Rattle.slots.specs.Slots.{slotsIn}
 use Rattle.stops.specs.Stops.{callStops, fileStops, formStops, formStop}
 use Rattle.stops.specs.laws.Clear.{Clear, clear, clear-none}
-use Rattle.importer.specs.Import.{following, confirmed, roomStops, stops, numberOf, refusal, success, written, told, answer, registerAfter, hgcAfter}
+use Rattle.importer.specs.Handed.{Handed}
+use Rattle.importer.specs.Import.{following, confirmed, roomStops, stops, importNumber, refusal, success, registerWritten, hgcWritten, importAnswer, registerAfter, hgcAfter}
 
-module _ (mode : ℕ) (reception register rows h hgc : List ℕ) where
+-- the file's form is right: none of 21 to 32
+abbrev pub Formed : Handed → List ℕ → Type 0
+Formed f register = Clear (f .mode) (f .reception) register (f .rows) (f .hgv)
+
+module _ (f : Handed) (register : List ℕ) where
   abbrev number : ℕ
-  number = numberOf mode reception register rows h hgc
+  number = importNumber f register
 
   -- every stop of form has a number
-  forms : numbered (formStops mode reception register rows h) ≡ true
+  forms : numbered (formStops (f .mode) (f .reception) register (f .rows) (f .hgv)) ≡ true
   unfolding formStops callStops fileStops numbered
   forms = refl
 
-  pub number-form : (n : ℕ) → n ≡ formStop mode reception register rows h → (n ≡ 0 → ⊥) → n ≡ number
-  unfolding numberOf stops formStop
-  number-form = by-first (formStops mode reception register rows h) (roomStops mode reception register rows h hgc) forms
+  pub number-form : (n : ℕ) → n ≡ formStop (f .mode) (f .reception) register (f .rows) (f .hgv) → (n ≡ 0 → ⊥) → n ≡ number
+  unfolding importNumber stops formStop
+  number-form = by-first (formStops (f .mode) (f .reception) register (f .rows) (f .hgv)) (roomStops f register) forms
 
-  pub number-room : Clear mode reception register rows h → (n : ℕ) → n ≡ first (roomStops mode reception register rows h hgc) → n ≡ number
-  unfolding numberOf stops formStop
-  number-room c = by-second (formStops mode reception register rows h) (roomStops mode reception register rows h hgc) forms (clear-none mode reception register rows h c)
+  pub number-room : Formed f register → (n : ℕ) → n ≡ first (roomStops f register) → n ≡ number
+  unfolding importNumber stops formStop
+  number-room c = by-second (formStops (f .mode) (f .reception) register (f .rows) (f .hgv)) (roomStops f register) forms (clear-none (f .mode) (f .reception) register (f .rows) (f .hgv) c)
 
   -- ---- a stop
 
   module _ (n : ℕ) (e : n ≡ number) (k : n ≡ 0 → ⊥) where
-    pub stop-answer : refusal n ≡ answer mode reception register rows h hgc
-    unfolding answer
+    pub stop-answer : refusal n ≡ importAnswer f register
+    unfolding importAnswer
     stop-answer = sym (rw (← e) (at-stop n _ (refusal n) k))
 
-    pub stop-register : register ≡ registerAfter mode reception register rows h hgc
+    pub stop-register : register ≡ registerAfter f register
     unfolding registerAfter
     stop-register = sym (rw (← e) (at-stop n _ register k))
 
-    pub stop-hgc : hgc ≡ hgcAfter mode reception register rows h hgc
+    pub stop-hgc : f .hgc ≡ hgcAfter f register
     unfolding hgcAfter
-    stop-hgc = sym (rw (← e) (at-stop n _ hgc k))
+    stop-hgc = sym (rw (← e) (at-stop n _ (f .hgc) k))
 
   -- ---- success
 
   module _ (e : number ≡ 0) where
-    pub done-answer : success reception register rows h ≡ answer mode reception register rows h hgc
-    unfolding answer
+    pub done-answer : success f register ≡ importAnswer f register
+    unfolding importAnswer
     done-answer = sym (at-success number _ _ e)
 
-    pub done-register : written mode reception register rows h ≡ registerAfter mode reception register rows h hgc
+    pub done-register : registerWritten f register ≡ registerAfter f register
     unfolding registerAfter
     done-register = sym (at-success number _ _ e)
 
-    pub done-hgc : told reception register rows h hgc ≡ hgcAfter mode reception register rows h hgc
+    pub done-hgc : hgcWritten f register ≡ hgcAfter f register
     unfolding hgcAfter
     done-hgc = sym (at-success number _ _ e)
 
   -- there is room for what follows
   pub record Room : Type 0 where
-    pub slots : length (following mode reception register rows h) ≤ slotsIn register
-    pub buffer : length (confirmed reception register rows h) ≤ length hgc
+    pub slots : length (following f register) ≤ slotsIn register
+    pub buffer : length (confirmed f register) ≤ length (f .hgc)
 
-  pub room-clear : first (roomStops mode reception register rows h hgc) ≡ 0 → Room
+  pub room-clear : first (roomStops f register) ≡ 0 → Room
   unfolding roomStops numbered
-  room-clear e = go (first-clear (roomStops mode reception register rows h hgc) refl e)
+  room-clear e = go (first-clear (roomStops f register) refl e)
     where
-      go : None (roomStops mode reception register rows h hgc) → Room
+      go : None (roomStops f register) → Room
       go (more h₁ (more h₂ none)) =
           record {
-            slots = ltb-false (slotsIn register) (length (following mode reception register rows h)) h₁;
-            buffer = ltb-false (length hgc) (length (confirmed reception register rows h)) h₂;
+            slots = ltb-false (slotsIn register) (length (following f register)) h₁;
+            buffer = ltb-false (length (f .hgc)) (length (confirmed f register)) h₂;
           }
 
   -- 0 is answered only where no stop holds
-  neither : number ≡ 0 → (formStop mode reception register rows h ≡ 0) × (first (roomStops mode reception register rows h hgc) ≡ 0)
-  unfolding numberOf stops formStop
-  neither = by-neither (formStops mode reception register rows h) (roomStops mode reception register rows h hgc) forms
+  neither : number ≡ 0 → (formStop (f .mode) (f .reception) register (f .rows) (f .hgv) ≡ 0) × (first (roomStops f register) ≡ 0)
+  unfolding importNumber stops formStop
+  neither = by-neither (formStops (f .mode) (f .reception) register (f .rows) (f .hgv)) (roomStops f register) forms
 
-  pub accepted-clear : number ≡ 0 → Clear mode reception register rows h
-  accepted-clear e = clear mode reception register rows h (neither e .0)
+  pub accepted-clear : number ≡ 0 → Formed f register
+  accepted-clear e = clear (f .mode) (f .reception) register (f .rows) (f .hgv) (neither e .0)
 
   pub accepted-room : number ≡ 0 → Room
   accepted-room e = room-clear (neither e .1)

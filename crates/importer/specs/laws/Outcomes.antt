@@ -4,11 +4,10 @@ use mathlib.Core.List.{List}
 use Prim.Native.Nat.{ℕ}
 use Rattle.theory.specs.laws.Outcome.{one-outcome}
 use Rattle.importer.specs.declared.Imported.{Imported}
+use Rattle.importer.specs.Handed.{Handed}
 use Rattle.importer.specs.Promises.{Import}
 
-pub import-one : (mode : ℕ) (reception register rows h hgc : List ℕ) (r r′ : Imported) (b b′ g g′ : List ℕ)
-    → Import mode reception register rows h hgc r b g → Import mode reception register rows h hgc r′ b′ g′
+pub import-one : (f : Handed) (register : List ℕ) (r r′ : Imported) (b b′ g g′ : List ℕ) → Import f register r b g → Import f register r′ b′ g′
     → (r ≡ r′) × ((b ≡ b′) × (g ≡ g′))
 unfolding Import
-import-one mode reception register rows h hgc r r′ b b′ g g′ o o′ =
-    (one-outcome (o .0) (o′ .0), (one-outcome (o .1 .0) (o′ .1 .0), one-outcome (o .1 .1) (o′ .1 .1)))
+import-one f register r r′ b b′ g g′ o o′ = (one-outcome (o .0) (o′ .0), (one-outcome (o .1 .0) (o′ .1 .0), one-outcome (o .1 .1) (o′ .1 .1)))

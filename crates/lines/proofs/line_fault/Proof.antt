@@ -18,7 +18,7 @@ returns c =
     chosen _ _ _ _ _ _ (c .before .before .before .before .before .first8 .ensures) (ap not (fits-is _ _ _ _ _ (c .before .before .before .before .before .before .before .before .before .before .before .before .before .before .before .before .before .before .before .before .issued-to .ensures) (c .before .before .before .before .before .before .before .before .before .before .before .before .before .before .before .before .before .before .before .before .before .field .ensures))) (
     chosen _ _ _ _ _ _ (c .before .before .before .before .before .before .first7 .ensures) (ap not (c .before .before .before .before .before .before .before .holds-l5 .ensures)) (
     chosen _ _ _ _ _ _ (c .before .before .before .before .before .before .before .before .first6 .ensures) (ap not (c .before .before .before .before .before .before .before .before .before .holds-l6 .ensures)) (
-    chosen _ _ _ _ _ _ (c .before .before .before .before .before .before .before .before .before .before .first5 .ensures) (c .before .before .before .before .before .before .before .before .before .before .before .is-stateless .ensures) (
+    chosen _ _ _ _ _ _ (c .before .before .before .before .before .before .before .before .before .before .first5 .ensures) (c .before .before .before .before .before .before .before .before .before .before .before .is-nationality-blank .ensures) (
     chosen _ _ _ _ _ _ (c .before .before .before .before .before .before .before .before .before .before .before .before .first4 .ensures) (ap not (c .before .before .before .before .before .before .before .before .before .before .before .before .before .holds-l7 .ensures)) (
     chosen _ _ _ _ _ _ (c .before .before .before .before .before .before .before .before .before .before .before .before .before .before .first3 .ensures) (ap not (c .before .before .before .before .before .before .before .before .before .before .before .before .before .before .before .holds-l8 .ensures)) (
     chosen _ _ _ _ _ _ (c .before .before .before .before .before .before .before .before .before .before .before .before .before .before .before .before .first2 .ensures) (ap not (c .before .before .before .before .before .before .before .before .before .before .before .before .before .before .before .before .before .holds-l9 .ensures)) (

@@ -18,7 +18,7 @@ use Rattle.theory.specs.Every.{all, run}
 use Rattle.theory.specs.laws.Every.{run-length, run-all, all-run, all-at, run-wider, run-append}
 use Rattle.theory.specs.Table.{tableFrom, tableOf}
 use Rattle.theory.specs.laws.Table.{entry, length-table}
-use Rattle.sizes.specs.Sizes.{timeLength}
+use Rattle.sizes.specs.Sizes.{slotEnd, timeLength}
 use Rattle.texts.specs.Field.{field, listed}
 use Rattle.texts.specs.laws.Field.{field-most, field-split, field-field}
 use Rattle.fields.specs.Field.{between, digit, zeroDigit, blank, capital, plain}
@@ -310,5 +310,5 @@ spans-plain (r ∷ rs) c = more (λ b. go b (plain b) refl) (spans-plain rs (and
         absurd (true≢false (sym h ∙ not-true (r .admits b) k))
 
 -- so no byte of a record is one
-pub record-plain : (l : List ℕ) → recordHolds l ≡ true → run plain 126 (text l) ≡ true
+pub record-plain : (l : List ℕ) → recordHolds l ≡ true → run plain 126 (text slotEnd l) ≡ true
 record-plain l h = spans-run l plain spans 2 127 (omega arith) spans-cover (each-both (record-covered l h) (spans-plain spans spans-clear)) .1

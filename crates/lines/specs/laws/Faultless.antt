@@ -21,13 +21,13 @@ use Rattle.times.specs.laws.Moment.{within}
 use Rattle.plates.specs.Plate.{nationality}
 use Rattle.vehicles.specs.Vehicle.{vehicleHolds, weightHolds}
 use Rattle.columns.specs.Columns.{actor, nationalityOf}
-use Rattle.lines.specs.Rules.{L1, L2, L3, L4, L5, L6, L7, L8, L9, L10, stateless, lineRules, lineFault, recordHolds}
+use Rattle.lines.specs.Rules.{L1, L2, L3, L4, L5, L6, L7, L8, L9, L10, nationalityBlank, lineRules, lineFault, recordHolds}
 use Rattle.lines.specs.Faultless.{Faultless}
 
 -- two capitals are no blanks
-stateful : (l : List ℕ) → L7 l ≡ true → stateless l ≡ false
-unfolding L7 nationality stateless field
-stateful l h = go (run blank 3 (nationalityOf l)) refl
+nationality-given : (l : List ℕ) → L7 l ≡ true → nationalityBlank l ≡ false
+unfolding L7 nationality nationalityBlank field
+nationality-given l h = go (run blank 3 (nationalityOf l)) refl
   where
     go : (b : Bool) → run blank 3 (nationalityOf l) ≡ b → b ≡ false
     go false e = refl
@@ -71,4 +71,4 @@ module _ (rows sender l : List ℕ) where
   -- and only then
   pub faultless-none : Faultless rows sender l → lineFault rows sender l ≡ 0
   unfolding lineFault lineRules first choose
-  faultless-none f = rw (f .l1, f .l2, f .l3, f .l4, f .l5, f .l6, stateful l (f .l7), f .l7, f .l8, f .l9, f .l10)
+  faultless-none f = rw (f .l1, f .l2, f .l3, f .l4, f .l5, f .l6, nationality-given l (f .l7), f .l7, f .l8, f .l9, f .l10)

@@ -9,4 +9,4 @@ unfolding textsIn
 returns c = c .are-firsts .ensures
 
 pub are-firsts-spec : {M : Type 1} → statement M
-are-firsts-spec = tie.close (tie.spec (λ c κs. search needs) returns)
+are-firsts-spec = tie.close (tie.spec (λ c. search needs) (λ c κs. search needs) returns)

@@ -11,16 +11,16 @@ use Rattle.matching.proofs.each_holds.Statement.{statement}
 use Rattle.matching.proofs.each_holds.Tie as tie
 
 abbrev Inv-loop : tie.InvT-loop
-Inv-loop hgv lines marks i₀ i = (i ≤ length marks) × EachAmong (lineHolds hgv) 128 (length marks) marks lines i
+Inv-loop hgv lines width marks i₀ i = (i ≤ length marks) × EachAmong (lineHolds hgv) width (length marks) marks lines i
 
 abbrev μ-loop : tie.MeasureT-loop
-μ-loop hgv lines marks i₀ i = length marks - i
+μ-loop hgv lines width marks i₀ i = length marks - i
 
 loop-holds : tie.Need-loop-holds Inv-loop μ-loop
 loop-holds c = (omega arith, each-among-start _ _ _ _ _)
 
 part-requires : tie.Need-part-requires Inv-loop μ-loop
-part-requires c κs = part-fits 128 _ (c .before .loop .i) _ (c .before .before .before .before .before .pre) (c .loop-test .taken)
+part-requires c κs = part-fits _ _ (c .before .loop .i) _ (c .before .before .before .before .before .pre) (c .loop-test .taken)
 
 returns : tie.Need-returns Inv-loop μ-loop
 returns c =

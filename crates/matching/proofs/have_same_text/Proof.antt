@@ -7,7 +7,7 @@ use Rattle.matching.proofs.have_same_text.Statement.{statement}
 use Rattle.matching.proofs.have_same_text.Tie as tie
 
 returns : tie.Need-returns
-returns c = sym (other-pan _ _ _ (c .before .before .field .ensures) _ (c .before .has-text .ensures) (not-true _ (c .if1 .taken)))
+returns c = sym (other-pan _ (c .before .before .before .before .before .pre) _ _ _ (c .before .before .field .ensures) _ (c .before .has-text .ensures) (not-true _ (c .if1 .taken)))
 
 returns-2 : tie.Need-returns-2
 returns-2 c = rw (c .has-text2 .ensures, c .before .field2 .ensures)
@@ -19,6 +19,7 @@ have-same-text-spec =
     (λ c κs. search needs)
     (λ c κs. search needs)
     returns
+    (λ c. search needs)
     (λ c κs. search needs)
     (λ c κs. search needs)
     returns-2)

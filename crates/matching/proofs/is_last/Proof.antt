@@ -12,11 +12,18 @@ returns : tie.Need-returns
 returns c = sym (last-none _ _ _ (c .if1 .taken))
 
 part-requires : tie.Need-part-requires
-part-requires c κs = part-fits 130 (c .before .before .before .args .k) _ _ (c .before .before .before .pre) (omega arith)
+part-requires c κs = part-fits _ (c .before .before .before .args .k) _ _ (c .before .before .before .pre .1) (omega arith)
 
 returns-2 : tie.Need-returns-2
-returns-2 c = last-is _ _ _ _ (c .before .before .if1 .left) _ (c .before .part .ensures) _ (c .have-same-text .ensures)
+returns-2 c = last-is _ _ _ _ _ (c .before .before .if1 .left) _ (c .before .part .ensures) _ (c .have-same-text .ensures)
 
 pub is-last-spec : {M : Type 1} → statement M
 is-last-spec =
-    tie.close (tie.spec returns (λ c. search needs) part-requires (λ c κs. search needs) returns-2)
+    tie.close
+    (tie.spec
+    returns
+    (λ c. search needs)
+    (λ c. search needs)
+    part-requires
+    (λ c κs. search needs)
+    returns-2)

@@ -7,24 +7,28 @@ use Rattle.matching.proofs.Laws.{length-texts, last-most, pair-turn}
 use mathlib.Core.Path.{_≡_, refl, sym}
 use Prim.Native.Nat.{_≤_}
 use native.Mathlib.Omega.{arith}
+use native.Mathlib.Nat.{mul-le-mul-right}
+use Rattle.hgc.specs.Confirmation.{answerLength}
 use borrow.Author.Needs.{needs}
 use Rattle.matching.proofs.pair.Statement.{statement}
 use Rattle.matching.proofs.pair.Tie as tie
 
 abbrev Inv-loop : tie.InvT-loop
-Inv-loop lines answers n marks₀ k₀ i₀ marks k i = (i ≤ length marks₀) × ((k ≤ n) × ((length marks ≡ length marks₀) × Pairs (textsIn 128 (length marks₀) lines) (textsIn 130 n answers) i k marks))
+Inv-loop lines width answers n marks₀ k₀ i₀ marks k i = (i ≤ length marks₀) × ((k ≤ n) × ((length marks ≡ length marks₀) × Pairs (textsIn width width (length marks₀) lines) (textsIn width (answerLength width) n answers) i k marks))
 
 abbrev μ-loop : tie.MeasureT-loop
-μ-loop lines answers n marks₀ k₀ i₀ marks k i = i
+μ-loop lines width answers n marks₀ k₀ i₀ marks k i = i
 
 loop-holds : tie.Need-loop-holds Inv-loop μ-loop
-loop-holds c = (omega arith, (omega arith, (refl, pairs-start _ _ _ (sym (length-texts 128 _ _)) _ (sym (length-texts 128 _ _)) _ (sym (length-texts 130 _ _)))))
+loop-holds c = (omega arith, (omega arith, (refl, pairs-start _ _ _ (sym (length-texts _ _ _ _)) _ (sym (length-texts _ _ _ _)) _ (sym (length-texts _ _ _ _)))))
 
 part-requires : tie.Need-part-requires Inv-loop μ-loop
-part-requires c κs = part-fits 128 (length (c .before .before .before .before .before .args .marks .now)) _ _ (c .before .before .before .before .before .pre .0) (omega (arith, c .before .loop .inv .0, c .loop-test .taken))
+part-requires c κs = part-fits _ (length (c .before .before .before .before .before .args .marks .now)) _ _ (c .before .before .before .before .before .pre .1 .0) (omega (arith, c .before .loop .inv .0, c .loop-test .taken))
 
 mark-requires : tie.Need-mark-requires Inv-loop μ-loop
-mark-requires c κs = omega (arith, c .before .before .before .before .before .before .pre .1, c .before .before .loop .inv .1 .0)
+mark-requires c κs =
+    let p = c .before .before .before .before .before .before .pre in
+    (p .0, omega (arith, p .1 .1, mul-le-mul-right (answerLength (c .before .before .before .before .before .before .args .width)) (c .before .before .loop .inv .1 .0)))
 
 sub-k : tie.Need-sub-k Inv-loop μ-loop
 sub-k c = omega (arith, last-most _ _ _ _ (c .mark .ensures))

@@ -22,7 +22,7 @@ use Rattle.numbers.specs.Number.{number}
 use Rattle.columns.specs.Columns.{text, panOf}
 use Rattle.lines.specs.Rules.{recordHolds}
 use Rattle.slots.specs.Search.{ofActor}
-use Rattle.hgv.specs.Layout.{linesOf}
+use Rattle.hgv.specs.Layout.{widthOf, linesOf}
 use Rattle.header.specs.Header.{sender}
 use Rattle.pairing.specs.Pairing.{marks, left}
 use Rattle.pairing.specs.laws.Pairing.{length-marks}
@@ -54,30 +54,30 @@ same-lists (x ∷ xs) (y ∷ ys) e = ap₂ _∷_ (eqs-true x y (and-left (eqs x 
 
 module _ (h g : List ℕ) where
   -- the copies are the lines left, in order, where the pairing uses all of them up and leaves only first lines alone
-  pub copies-pair : copiesHold h g ≡ pairsUp (textsOf h) (copiesOf g)
+  pub copies-pair : copiesHold h g ≡ pairsUp (textsOf h) (copiesOf h g)
   unfolding copiesHold
   copies-pair =
-      same-truth (sameTexts (left (textsOf h) (copiesOf g)) (copiesOf g)) (pairsUp (textsOf h) (copiesOf g))
-      (λ e. left-pairs-up (textsOf h) (copiesOf g) (same-lists (left (textsOf h) (copiesOf g)) (copiesOf g) e))
-      (λ e. rw (left-paired (textsOf h) (copiesOf g) e) (same-texts (copiesOf g)))
+      same-truth (sameTexts (left (textsOf h) (copiesOf h g)) (copiesOf h g)) (pairsUp (textsOf h) (copiesOf h g))
+      (λ e. left-pairs-up (textsOf h) (copiesOf h g) (same-lists (left (textsOf h) (copiesOf h g)) (copiesOf h g) e))
+      (λ e. rw (left-paired (textsOf h) (copiesOf h g) e) (same-texts (copiesOf h g)))
 
   -- which then says which were taken
-  pub pair-marks : pairsUp (textsOf h) (copiesOf g) ≡ true → paired (textsOf h) (copiesOf g) ≡ marksOf h g
+  pub pair-marks : pairsUp (textsOf h) (copiesOf h g) ≡ true → paired (textsOf h) (copiesOf h g) ≡ marksOf h g
   unfolding marksOf
-  pair-marks e = sym (marks-paired (textsOf h) (copiesOf g) e)
+  pair-marks e = sym (marks-paired (textsOf h) (copiesOf h g) e)
 
   -- as many as there are marks 0
   pub taken-count : tally good (marksOf h g) ≡ length (takenBy h g)
   unfolding takenBy marksOf textsOf
   taken-count =
-      sym (tally-pick good (marks (map text (linesOf h)) (copiesOf g)) (linesOf h)
-      (length-marks (map text (linesOf h)) (copiesOf g) ∙ length-map (linesOf h) text))
+      sym (tally-pick good (marks (map (text (widthOf h)) (linesOf h)) (copiesOf h g)) (linesOf h)
+      (length-marks (map (text (widthOf h)) (linesOf h)) (copiesOf h g) ∙ length-map (linesOf h) (text (widthOf h))))
 
 -- what is known where the lines hold
 pub record Held (h g : List ℕ) : Type 0 where
-  pub copies : left (textsOf h) (copiesOf g) ≡ copiesOf g
+  pub copies : left (textsOf h) (copiesOf h g) ≡ copiesOf h g
   pub taken : number (takenOf g) ≡ length (takenBy h g)
-  pub rejected : number (rejectedOf g) ≡ answersIn g
+  pub rejected : number (rejectedOf g) ≡ answersIn h g
   -- of the lines taken: no two have one PAN, each has the sender for its actor, and keeps L1, L5 to L10
   pub apart : distinct (map panOf (takenBy h g)) ≡ true
   pub own : Each (λ l. ofActor (sender h) l ≡ true) (takenBy h g)
@@ -101,16 +101,16 @@ module _ (h g : List ℕ) (e : linesHold h g ≡ true) where
   holding = each-passes (lineHolds h) (takenBy h g) (and-right (distinct (map panOf (takenBy h g))) (each (lineHolds h) (takenBy h g)) took)
 
   -- the marks of the pairing are those of the lines taken
-  pub taken-marks : paired (textsOf h) (copiesOf g) ≡ marksOf h g
+  pub taken-marks : paired (textsOf h) (copiesOf h g) ≡ marksOf h g
   taken-marks = pair-marks h g (sym (copies-pair h g) ∙ copied)
 
   pub held : Held h g
   unfolding copiesHold countsHold takenHold
   held =
       record {
-        copies = same-lists (left (textsOf h) (copiesOf g)) (copiesOf g) copied;
-        taken = eqb-true (number (takenOf g)) (length (takenBy h g)) (and-left (eqb (number (takenOf g)) (length (takenBy h g))) (eqb (number (rejectedOf g)) (answersIn g)) counted);
-        rejected = eqb-true (number (rejectedOf g)) (answersIn g) (and-right (eqb (number (takenOf g)) (length (takenBy h g))) (eqb (number (rejectedOf g)) (answersIn g)) counted);
+        copies = same-lists (left (textsOf h) (copiesOf h g)) (copiesOf h g) copied;
+        taken = eqb-true (number (takenOf g)) (length (takenBy h g)) (and-left (eqb (number (takenOf g)) (length (takenBy h g))) (eqb (number (rejectedOf g)) (answersIn h g)) counted);
+        rejected = eqb-true (number (rejectedOf g)) (answersIn h g) (and-right (eqb (number (takenOf g)) (length (takenBy h g))) (eqb (number (rejectedOf g)) (answersIn h g)) counted);
         apart = and-left (distinct (map panOf (takenBy h g))) (each (lineHolds h) (takenBy h g)) took;
         own = each-map (λ l q. and-left (ofActor (sender h) l) (recordHolds l) q) holding;
         records = each-map (λ l q. and-right (ofActor (sender h) l) (recordHolds l) q) holding;

@@ -4,6 +4,6 @@ use mathlib.Core.List.{List, map}
 use Rattle.theory.specs.Parts.{chop}
 use Rattle.columns.specs.Columns.{text}
 
--- those of the first n lines of b, each `width` bytes long
-unfoldable pub textsIn : ℕ → ℕ → List ℕ → List (List ℕ)
-textsIn width n b = map text (chop width n b)
+-- those of the first n lines of b, each v bytes long; w is the width of the HGV's lines
+unfoldable pub textsIn : ℕ → ℕ → ℕ → List ℕ → List (List ℕ)
+textsIn w v n b = map (text w) (chop v n b)

@@ -1,11 +1,11 @@
 -- Assumes nothing.
-use Rattle.provider.specs.Answer.{refusal}
+use Rattle.provider.specs.Answer.{stopCounts}
 use mathlib.Core.Path.{refl}
 use Rattle.provider.proofs.refused.Statement.{statement}
 use Rattle.provider.proofs.refused.Tie as tie
 
 returns : tie.Need-returns
-unfolding refusal
+unfolding stopCounts
 returns c = refl
 
 pub refused-spec : {M : Type 1} → statement M

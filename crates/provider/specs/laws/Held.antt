@@ -22,7 +22,7 @@ use Rattle.lines.specs.Rules.{recordHolds}
 use Rattle.lines.specs.End.{recordOf}
 use Rattle.upkeep.specs.Makes.{Makes}
 use Rattle.upkeep.specs.laws.Makes.{record-makes}
-use Rattle.hgv.specs.Layout.{linesIn, linesOf}
+use Rattle.hgv.specs.Layout.{widthOf, linesIn, linesOf}
 use Rattle.hgv.specs.laws.Layout.{length-lines}
 use Rattle.pairing.specs.Pairing.{left}
 use Rattle.pairing.specs.Backwards.{paired}
@@ -33,7 +33,7 @@ use Rattle.matching.specs.laws.Matching.{Held, held, taken-marks, taken-count a
 module _ (h g : List ℕ) where
   pub length-marks-of : length (marksOf h g) ≡ linesIn h
   unfolding marksOf textsOf
-  length-marks-of = length-marks (textsOf h) (copiesOf g) ∙ length-map (linesOf h) _ ∙ length-lines h
+  length-marks-of = length-marks (textsOf h) (copiesOf h g) ∙ length-map (linesOf h) _ ∙ length-lines h
 
   -- a 0 for each taken line
   pub taken-count : (ms : List ℕ) → ms ≡ marksOf h g → tally good ms ≡ length (takenBy h g)
@@ -49,32 +49,32 @@ module _ (h g : List ℕ) where
     lines = and-right (saysHold h g) (linesHold h g) r
 
     -- in front of the reasons
-    fronted : ((formHolds g && namesHold h g) && realTime (receptionOf g)) && outcomeHolds g ≡ true
+    fronted : ((formHolds h g && namesHold h g) && realTime (receptionOf g)) && outcomeHolds h g ≡ true
     unfolding saysHold
-    fronted = and-left (((formHolds g && namesHold h g) && realTime (receptionOf g)) && outcomeHolds g) (each reasonHolds (answersOf g)) says
+    fronted = and-left (((formHolds h g && namesHold h g) && realTime (receptionOf g)) && outcomeHolds h g) (each (reasonHolds (widthOf h)) (answersOf h g)) says
 
-    pub reasons-held : each reasonHolds (answersOf g) ≡ true
+    pub reasons-held : each (reasonHolds (widthOf h)) (answersOf h g) ≡ true
     unfolding saysHold
-    reasons-held = and-right (((formHolds g && namesHold h g) && realTime (receptionOf g)) && outcomeHolds g) (each reasonHolds (answersOf g)) says
+    reasons-held = and-right (((formHolds h g && namesHold h g) && realTime (receptionOf g)) && outcomeHolds h g) (each (reasonHolds (widthOf h)) (answersOf h g)) says
 
     pub received-held : realTime (receptionOf g) ≡ true
     received-held =
-        and-right (formHolds g && namesHold h g) (realTime (receptionOf g)) (and-left ((formHolds g && namesHold h g) && realTime (receptionOf g)) (outcomeHolds g) fronted)
+        and-right (formHolds h g && namesHold h g) (realTime (receptionOf g)) (and-left ((formHolds h g && namesHold h g) && realTime (receptionOf g)) (outcomeHolds h g) fronted)
 
     matched : Held h g
     matched = held h g lines
 
     -- what the pairing wrote are its marks
-    pub marks-are : (ms : List ℕ) → ms ≡ paired (textsOf h) (copiesOf g) → ms ≡ marksOf h g
+    pub marks-are : (ms : List ℕ) → ms ≡ paired (textsOf h) (copiesOf h g) → ms ≡ marksOf h g
     marks-are ms e = e ∙ taken-marks h g lines
 
     -- as many lines left as the HGC has
-    pub left-count : (ms : List ℕ) → ms ≡ marksOf h g → tally bad ms ≡ answersIn g
+    pub left-count : (ms : List ℕ) → ms ≡ marksOf h g → tally bad ms ≡ answersIn h g
     unfolding copiesOf answersOf marksOf left textsOf
     left-count ms e =
         rw e
-        (sym (tally-pick bad (marksOf h g) (textsOf h) (length-marks (textsOf h) (copiesOf g)))
-        ∙ ap length (matched .copies) ∙ length-map (answersOf g) _ ∙ length-chop _ (answersIn g) _)
+        (sym (tally-pick bad (marksOf h g) (textsOf h) (length-marks (textsOf h) (copiesOf h g)))
+        ∙ ap length (matched .copies) ∙ length-map (answersOf h g) _ ∙ length-chop _ (answersIn h g) _)
 
     -- each keeps the rules of a record
     pub taken-kept : Each (λ l. recordHolds l ≡ true) (takenBy h g)
@@ -91,12 +91,12 @@ module _ (h g : List ℕ) (r : Bool) (er : r ≡ receiptHolds h g) (k : not r �
   pub holds : receiptHolds h g ≡ true
   holds = sym er ∙ not-false r k
 
-  module _ (ms : List ℕ) (em : ms ≡ paired (textsOf h) (copiesOf g)) where
+  module _ (ms : List ℕ) (em : ms ≡ paired (textsOf h) (copiesOf h g)) where
     pub marks-fit : ms ≡ marksOf h g
     marks-fit = marks-are h g holds ms em
 
     pub marks-each : length ms ≡ linesIn h
     marks-each = ap length marks-fit ∙ length-marks-of h g
 
-    pub tell-fits : (each reasonHolds (answersOf g) ≡ true) × (tally bad ms ≤ answersIn g)
+    pub tell-fits : (each (reasonHolds (widthOf h)) (answersOf h g) ≡ true) × (tally bad ms ≤ answersIn h g)
     tell-fits = (reasons-held h g holds, omega (arith, left-count h g holds ms marks-fit))

@@ -1,7 +1,7 @@
 -- One stop after the other. Assumes nothing.
 use Rattle.theory.specs.First.{first}
 use Rattle.theory.specs.laws.First.{chosen}
-use Rattle.reading.specs.ReadBack.{fileStops}
+use Rattle.reading.specs.ReadBack.{hgvStops}
 use mathlib.Core.Path.{refl, ap}
 use mathlib.Core.Bool.{not}
 use borrow.Author.Needs.{needs}
@@ -9,7 +9,7 @@ use Rattle.reading.proofs.file_stop.Statement.{statement}
 use Rattle.reading.proofs.file_stop.Tie as tie
 
 returns : tie.Need-returns
-unfolding fileStops first
+unfolding hgvStops first
 returns c =
     let c₂ = c .before .before in
     let c₃ = c₂ .before .before in

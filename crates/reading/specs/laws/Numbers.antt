@@ -11,33 +11,33 @@ use Rattle.theory.specs.laws.First.{first-clear, numbered}
 use Rattle.theory.specs.laws.Stopped.{at-stop, at-success, by-first, by-second}
 use Rattle.hgv.specs.Layout.{linesIn, lengthHolds}
 use Rattle.receipts.specs.Receipt.{receiptHolds}
-use Rattle.provider.specs.Answer.{refusal, counted}
-use Rattle.reading.specs.ReadBack.{fileStops, blockStops, readNumber, readAnswer, toldTo, verdictsAfter}
+use Rattle.provider.specs.Answer.{stopCounts, successCounts}
+use Rattle.reading.specs.ReadBack.{hgvStops, blockStops, readNumber, readAnswer, verdictsWritten, verdictsAfter}
 
 -- every stop of the file has a number
-files : (h : List ℕ) → numbered (fileStops h) ≡ true
-unfolding fileStops numbered
+files : (h : List ℕ) → numbered (hgvStops h) ≡ true
+unfolding hgvStops numbered
 files h = refl
 
-pub file-sized : (h : List ℕ) → first (fileStops h) ≡ 0 → lengthHolds h ≡ true
-unfolding fileStops
-file-sized h z = go (first-clear (fileStops h) (files h) z)
+pub file-sized : (h : List ℕ) → first (hgvStops h) ≡ 0 → lengthHolds h ≡ true
+unfolding hgvStops
+file-sized h z = go (first-clear (hgvStops h) (files h) z)
   where
-    go : None (fileStops h) → lengthHolds h ≡ true
+    go : None (hgvStops h) → lengthHolds h ≡ true
     go (more k ks) = not-false (lengthHolds h) k
 
 module _ (h g block : List ℕ) where
   abbrev read : ℕ
   read = readNumber h g block
 
-  pub read-file : (n : ℕ) → n ≡ first (fileStops h) → (n ≡ 0 → ⊥) → n ≡ read
+  pub read-file : (n : ℕ) → n ≡ first (hgvStops h) → (n ≡ 0 → ⊥) → n ≡ read
   unfolding readNumber
-  read-file = by-first (fileStops h) (blockStops h g block) (files h)
+  read-file = by-first (hgvStops h) (blockStops h g block) (files h)
 
-  module _ (z : first (fileStops h) ≡ 0) where
+  module _ (z : first (hgvStops h) ≡ 0) where
     read-behind : (n : ℕ) → n ≡ first (blockStops h g block) → n ≡ read
     unfolding readNumber
-    read-behind = by-second (fileStops h) (blockStops h g block) (files h) z
+    read-behind = by-second (hgvStops h) (blockStops h g block) (files h) z
 
     pub read-52 : receiptHolds h g ≡ false → 52 ≡ read
     unfolding blockStops first choose
@@ -53,9 +53,9 @@ module _ (h g block : List ℕ) where
 
   -- a stop
   module _ (n : ℕ) (e : n ≡ read) (k : n ≡ 0 → ⊥) where
-    pub read-refused : refusal n ≡ readAnswer h g block
+    pub read-refused : stopCounts n ≡ readAnswer h g block
     unfolding readAnswer
-    read-refused = sym (rw (← e) (at-stop n _ (refusal n) k))
+    read-refused = sym (rw (← e) (at-stop n _ (stopCounts n) k))
 
     pub verdicts-stay : block ≡ verdictsAfter h g block
     unfolding verdictsAfter
@@ -63,10 +63,10 @@ module _ (h g block : List ℕ) where
 
   -- success
   module _ (e : 0 ≡ read) where
-    pub read-counted : counted h g ≡ readAnswer h g block
+    pub read-counted : successCounts h g ≡ readAnswer h g block
     unfolding readAnswer
     read-counted = sym (at-success read _ _ (sym e))
 
-    pub verdicts-told : toldTo h g block ≡ verdictsAfter h g block
+    pub verdicts-told : verdictsWritten h g block ≡ verdictsAfter h g block
     unfolding verdictsAfter
     verdicts-told = sym (at-success read _ _ (sym e))

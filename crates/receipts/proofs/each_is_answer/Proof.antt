@@ -2,7 +2,8 @@
 use borrow.Author.Tests.{not-true, not-false}
 use Rattle.theory.specs.laws.Parts.{part-fits}
 use Rattle.theory.specs.laws.Walk.{EachFrom, each-start, each-on, each-off, each-end}
-use Rattle.hgc.specs.Confirmation.{answerLength}
+use Rattle.hgv.specs.Layout.{widthOf}
+use Rattle.hgv.specs.laws.Layout.{is-width}
 use Rattle.receipts.specs.Receipt.{answerForm, reasonHolds}
 use Rattle.receipts.specs.laws.Receipt.{answers-room, answers-are}
 use mathlib.Core.Path.{sym}
@@ -14,31 +15,36 @@ use Rattle.receipts.proofs.each_is_answer.Statement.{statement}
 use Rattle.receipts.proofs.each_is_answer.Tie as tie
 
 abbrev Inv-loop : tie.InvT-loop
-Inv-loop hgc lines n i₀ i = (i ≤ n) × EachFrom (λ a. answerForm a && reasonHolds a) answerLength n lines i
+Inv-loop hgv hgc lines n sent wide i₀ i = (i ≤ n) × EachFrom (λ a. answerForm (widthOf hgv) a && reasonHolds (widthOf hgv) a) wide n lines i
 
 abbrev μ-loop : tie.MeasureT-loop
-μ-loop hgc lines n i₀ i = n - i
+μ-loop hgv hgc lines n sent wide i₀ i = n - i
 
 loop-holds : tie.Need-loop-holds Inv-loop μ-loop
 loop-holds c = (omega arith, each-start _ _ _ _)
 
 part-requires : tie.Need-part-requires Inv-loop μ-loop
-part-requires c κs = let x = c .before .before in
-    part-fits answerLength _ (c .before .loop .i) _ (answers-room _ _ _ (x .before .answers .ensures) (x .answers-in .ensures)) (c .loop-test .taken)
+part-requires c κs = let y = c .before .before .before .before in
+    part-fits _ _ (c .before .loop .i) _ (answers-room _ _ _ _ _ (y .before .answers .ensures) (c .before .before .width2 .ensures) (y .answers-in .ensures)) (c .loop-test .taken)
+
+is-answer-requires : tie.Need-is-answer-requires Inv-loop μ-loop
+is-answer-requires c κs = rw (c .before .before .before .before .width .ensures) (is-width _)
 
 returns : tie.Need-returns Inv-loop μ-loop
 returns c = let x = c .before .before .before in
     let y = x .before .before in
-    sym (rw (← answers-are _ _ _ (y .before .answers .ensures) (y .answers-in .ensures))
-    (each-off _ _ _ _ _ (x .before .loop .inv .1) (x .loop-test .taken) _ (c .before .before .part .ensures) _ (c .before .is-answer .ensures) (not-true _ (c .if1 .taken))))
+    let z = y .before .before in
+    sym (rw (← answers-are _ _ _ _ _ (z .before .answers .ensures) (y .width2 .ensures) (z .answers-in .ensures))
+    (each-off _ _ _ _ _ (x .before .loop .inv .1) (x .loop-test .taken) _ (c .before .before .part .ensures) _ (rw (y .before .width .ensures) at (c .before .is-answer .ensures)) (not-true _ (c .if1 .taken))))
 
 loop-again : tie.Need-loop-again Inv-loop μ-loop
 loop-again c = let x = c .before .before .before in
-    (omega arith, each-on _ _ _ _ _ (x .before .loop .inv .1) (x .loop-test .taken) _ (c .before .before .part .ensures) _ (c .before .is-answer .ensures) (not-false _ (c .if1 .left)))
+    (omega arith, each-on _ _ _ _ _ (x .before .loop .inv .1) (x .loop-test .taken) _ (c .before .before .part .ensures) _ (rw (x .before .before .before .width .ensures) at (c .before .is-answer .ensures)) (not-false _ (c .if1 .left)))
 
 returns-2 : tie.Need-returns-2 Inv-loop μ-loop
 returns-2 c = let y = c .before .before in
-    sym (rw (← answers-are _ _ _ (y .before .answers .ensures) (y .answers-in .ensures)) (each-end _ _ _ _ _ (c .before .loop .inv .1) (c .loop-test .left)))
+    let z = y .before .before in
+    sym (rw (← answers-are _ _ _ _ _ (z .before .answers .ensures) (y .width2 .ensures) (z .answers-in .ensures)) (each-end _ _ _ _ _ (c .before .loop .inv .1) (c .loop-test .left)))
 
 pub each-is-answer-spec : {M : Type 1} → statement M
 each-is-answer-spec =
@@ -48,9 +54,11 @@ each-is-answer-spec =
     μ-loop
     (λ c κs. search needs)
     (λ c κs. search needs)
+    (λ c κs. search needs)
+    (λ c κs. search needs)
     loop-holds
     part-requires
-    (λ c κs. search needs)
+    is-answer-requires
     returns
     (λ c. search needs)
     (λ c. search needs)

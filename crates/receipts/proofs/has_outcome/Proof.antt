@@ -5,10 +5,10 @@ use Rattle.receipts.proofs.has_outcome.Statement.{statement}
 use Rattle.receipts.proofs.has_outcome.Tie as tie
 
 returns : tie.Need-returns
-returns c = outcome-none _ _ (c .before .before .before .answers-in .ensures) (c .before .before .if1 .taken) _ (c .has-text .ensures)
+returns c = outcome-none _ _ _ (c .before .before .before .answers-in .ensures) (c .before .before .if1 .taken) _ (c .has-text .ensures)
 
 returns-2 : tie.Need-returns-2
-returns-2 c = outcome-some _ _ (c .before .before .before .answers-in .ensures) (c .before .before .if1 .left) _ (c .has-text2 .ensures)
+returns-2 c = outcome-some _ _ _ (c .before .before .before .answers-in .ensures) (c .before .before .if1 .left) _ (c .has-text2 .ensures)
 
 pub has-outcome-spec : {M : Type 1} → statement M
 has-outcome-spec =

@@ -4,10 +4,13 @@ use mathlib.Core.Bool.{Bool}
 use mathlib.Core.List.{List}
 use Prim.Native.Nat.{ℕ}
 use Rattle.theory.specs.laws.Outcome.{one-outcome}
-use Rattle.receipts.specs.Promises.{AnswersIn, Answers, Reception, Says}
+use Rattle.receipts.specs.Promises.{Width, AnswersIn, Answers, Reception, Says}
 
-pub answers-in-one : (g : List ℕ) (r s : ℕ) → AnswersIn g r → AnswersIn g s → r ≡ s
-answers-in-one g r s = one-outcome
+pub width-one : (h : List ℕ) (r s : ℕ) → Width h r → Width h s → r ≡ s
+width-one h r s = one-outcome
+
+pub answers-in-one : (h g : List ℕ) (r s : ℕ) → AnswersIn h g r → AnswersIn h g s → r ≡ s
+answers-in-one h g r s = one-outcome
 
 pub answers-one : (g r s : List ℕ) → Answers g r → Answers g s → r ≡ s
 answers-one g r s = one-outcome

@@ -1,23 +1,25 @@
 -- Laws of the HGC's layout, for those who read its lines. Assumes nothing.
 use mathlib.Core.Path.{_≡_}
 use mathlib.Core.List.{List}
-use Prim.Native.Nat.{ℕ, _*_, _≤_}
+use Prim.Native.Nat.{ℕ, _*_, _-_, _≤_}
 use native.Mathlib.Omega.{arith}
+use native.Mathlib.Nat.{div-add-mod'}
 use lib.ListN.{length, length-drop}
 use Rattle.theory.specs.Parts.{chop}
+use Rattle.hgv.specs.Layout.{widthOf}
 use Rattle.hgc.specs.Confirmation.{answerLength}
-use Rattle.receipts.specs.Receipt.{answersIn, behindHead, answersOf}
+use Rattle.receipts.specs.Receipt.{bareLength, answersIn, behindHead, answersOf}
 
 -- behind the header there is room for them
-room : (g : List ℕ) → answersIn g * answerLength ≤ length (behindHead g)
+room : (h g : List ℕ) → answersIn h g * answerLength (widthOf h) ≤ length (behindHead g)
 unfolding answersIn behindHead
-room g = rw length-drop (omega arith)
+room h g = rw length-drop (omega (arith, div-add-mod' (length g - bareLength) (answerLength (widthOf h))))
 
 -- the lines, and how many there are, as they are handed over
-module _ (g lines : List ℕ) (n : ℕ) (e : lines ≡ behindHead g) (k : n ≡ answersIn g) where
-  pub answers-room : n * answerLength ≤ length lines
-  answers-room = rw (e, k) (room g)
+module _ (h g lines : List ℕ) (w n : ℕ) (e : lines ≡ behindHead g) (d : w ≡ answerLength (widthOf h)) (k : n ≡ answersIn h g) where
+  pub answers-room : n * w ≤ length lines
+  answers-room = rw (e, d, k) (room h g)
 
-  pub answers-are : chop answerLength n lines ≡ answersOf g
+  pub answers-are : chop w n lines ≡ answersOf h g
   unfolding answersOf
-  answers-are = rw (e, k)
+  answers-are = rw (e, d, k)

@@ -5,6 +5,7 @@ use mathlib.Core.Bool.{true}
 use mathlib.Core.List.{List, [], _∷_, _++_, append-assoc}
 use Prim.Native.Nat.{ℕ, _*_, _-_, _%_, _≤_}
 use native.Mathlib.Omega.{arith}
+use native.Mathlib.Nat.{mul-div-cancel, mul-mod-left}
 use lib.ListN.{length, length-append}
 use lib.Seq.{take-at, drop-at}
 use borrow.Author.Tests.{eq-eqb, le-leb}
@@ -27,13 +28,13 @@ use Rattle.numbers.specs.Number.{decimal}
 use Rattle.numbers.specs.laws.Number.{decimal-digits}
 use Rattle.lines.specs.Rules.{recordHolds}
 use Rattle.slots.specs.Search.{ofActor}
-use Rattle.hgv.specs.Layout.{linesIn, lengthHolds, linesOf, footer}
-use Rattle.sizes.specs.Sizes.{lineLength, footerLength, hgcHeaderLength}
+use Rattle.hgv.specs.Layout.{widthOf, linesIn, lengthHolds, linesOf, footer}
+use Rattle.sizes.specs.Sizes.{footerLength, hgcHeaderLength}
 use Rattle.frames.specs.Frames.{footerHolds}
-use Rattle.hgv.specs.laws.Layout.{length-lines, each-lined, length-least}
+use Rattle.hgv.specs.laws.Layout.{width-has, length-lines, each-line, length-least}
 use Rattle.header.specs.Header.{sender, listSequence}
 use Rattle.hgc.specs.Confirmation.{answerLength, confirmationLength, zeros, outcome, head, answer, answers, foot, confirmation}
-use Rattle.hgc.specs.laws.Confirmation.{length-head, length-foot, each-answer, count-answers, length-answers, length-confirmation}
+use Rattle.hgc.specs.laws.Confirmation.{Holding, length-head, length-foot, each-answer, count-answers, length-answers, length-confirmation}
 use Rattle.hgc.specs.laws.Fields.{
   head-type,
   head-sender,
@@ -83,17 +84,17 @@ unfolding lineHolds
 line-holds h l = and-both (ofActor (sender h) l) (recordHolds l)
 
 -- what every answer has whose verdict has p, each of a file's answers has
-pub each-answered : {p : ℕ → Type 0} {q : List ℕ → Type 0} → ((v : ℕ) (l : List ℕ) → p v → 127 ≤ length l → q (answer v l))
-    → {vs : List ℕ} {ls : List (List ℕ)} → Each (λ v. bad v ≡ true → p v) vs → Each (λ l. length l ≡ lineLength) ls → Each q (answers vs ls)
+pub each-answered : (w : ℕ) → 3 ≤ w → {p : ℕ → Type 0} {q : List ℕ → Type 0} → ((v : ℕ) (l : List ℕ) → p v → Holding w l → q (answer w v l))
+    → {vs : List ℕ} {ls : List (List ℕ)} → Each (λ v. bad v ≡ true → p v) vs → Each (λ l. length l ≡ w) ls → Each q (answers w vs ls)
 unfolding answers
-each-answered g none h = none
-each-answered g (more k ks) none = none
-each-answered g (more k ks) (more h hs) = each-onto _ _ _ (λ e. g _ _ (k e) (omega arith)) (each-answered g ks hs)
+each-answered w o g none h = none
+each-answered w o g (more k ks) none = none
+each-answered w o g (more k ks) (more h hs) = each-onto _ _ _ (λ e. g _ _ (k e) (o, omega arith)) (each-answered w o g ks hs)
 
 -- an answer's two ends
-answer-form : (v : ℕ) (l : List ℕ) → v ≡ v → 127 ≤ length l → answerForm (answer v l) ≡ true
+answer-form : (w v : ℕ) (l : List ℕ) → v ≡ v → Holding w l → answerForm w (answer w v l) ≡ true
 unfolding answerForm eqs
-answer-form v l e h = rw (answer-type v l h, answer-end v l h)
+answer-form w v l e h = rw (answer-type w v l h, answer-end w v l h)
 
 module _ (reception h vs : List ℕ) (dated : length reception ≡ 14) (sized : lengthHolds h ≡ true) (counted : length vs ≡ linesIn h) where
   abbrev g : List ℕ
@@ -102,30 +103,40 @@ module _ (reception h vs : List ℕ) (dated : length reception ≡ 14) (sized : 
   abbrev top : List ℕ
   top = head reception h (tally good vs) (tally bad vs)
 
+  abbrev w : ℕ
+  w = widthOf h
+
   abbrev rows : List (List ℕ)
-  rows = answers vs (linesOf h)
+  rows = answers w vs (linesOf h)
+
+  wide : 3 ≤ w
+  wide = width-has h 3 (omega arith)
 
   long : 128 ≤ length h
   long = omega (arith, length-least h sized)
 
-  size : length g ≡ confirmationLength (tally bad vs)
+  size : length g ≡ confirmationLength w (tally bad vs)
   size = length-confirmation reception h vs dated sized counted
 
   size-top : length top ≡ hgcHeaderLength
   size-top = length-head reception h (tally good vs) (tally bad vs) dated long
 
   rows-counted : length rows ≡ tally bad vs
-  rows-counted = count-answers vs (linesOf h) (omega (arith, length-lines h))
+  rows-counted = count-answers w vs (linesOf h) (omega (arith, length-lines h))
 
-  size-rows : length (flat rows) ≡ tally bad vs * answerLength
-  size-rows = length-answers vs (each-lined h) ∙ ap (λ (k : ℕ). k * answerLength) rows-counted
+  size-rows : length (flat rows) ≡ tally bad vs * answerLength w
+  size-rows = length-answers w wide vs (each-line h) ∙ ap (λ (k : ℕ). k * answerLength w) rows-counted
+
+  -- what there is beside header and footer
+  size-between : length g - bareLength ≡ tally bad vs * answerLength w
+  size-between = omega (arith, size)
 
   -- ---- its parts
 
   -- as many lines as bad verdicts
-  pub answers-in : answersIn g ≡ tally bad vs
+  pub answers-in : answersIn h g ≡ tally bad vs
   unfolding answersIn
-  answers-in = omega (arith, size)
+  answers-in = rw size-between (mul-div-cancel (tally bad vs) (omega arith))
 
   -- behind the header its lines, and then the footer
   behind-top : behindHead g ≡ flat rows ++ foot
@@ -133,12 +144,12 @@ module _ (reception h vs : List ℕ) (dated : length reception ≡ 14) (sized : 
   behind-top = rw (append-assoc top (flat rows) foot) (drop-at top (flat rows ++ foot) hgcHeaderLength size-top)
 
   -- and they are the answers
-  pub answers-of : answersOf g ≡ rows
+  pub answers-of : answersOf h g ≡ rows
   unfolding answersOf
   answers-of =
       rw (answers-in, behind-top)
-      (sym (chop-take answerLength (tally bad vs) (flat rows ++ foot) (simp length-append (omega (arith, size-rows))))
-      ∙ rw (take-at (flat rows) foot (tally bad vs * answerLength) size-rows, ← rows-counted) (chop-flat answerLength (each-answer vs (each-lined h))))
+      (sym (chop-take (answerLength w) (tally bad vs) (flat rows ++ foot) (simp length-append (omega (arith, size-rows))))
+      ∙ rw (take-at (flat rows) foot (tally bad vs * answerLength w) size-rows, ← rows-counted) (chop-flat (answerLength w) (each-answer w wide vs (each-line h))))
 
   -- its last 64 bytes are the footer
   pub foot-of : footer g ≡ foot
@@ -156,9 +167,9 @@ module _ (reception h vs : List ℕ) (dated : length reception ≡ 14) (sized : 
   -- ---- its form
 
   -- 110 + 130 r + 64
-  pub length-form : lengthForm g ≡ true
+  pub length-form : lengthForm h g ≡ true
   unfolding lengthForm
-  length-form = rw (le-leb bareLength (length g) (omega (arith, size)), eq-eqb ((length g - bareLength) % answerLength) 0 (omega (arith, size)))
+  length-form = rw (le-leb bareLength (length g) (omega (arith, size)), size-between, eq-eqb (tally bad vs * answerLength w % answerLength w) 0 (mul-mod-left (tally bad vs) (answerLength w)))
 
   -- the counts in it
   pub taken-of : takenOf g ≡ decimal 15 (tally good vs)
@@ -184,11 +195,11 @@ module _ (reception h vs : List ℕ) (dated : length reception ≡ 14) (sized : 
       )
 
   -- each line has its two ends
-  pub answer-forms : each answerForm (answersOf g) ≡ true
-  answer-forms = rw answers-of (passes-each answerForm (each-answered answer-form (each-from vs 0 (λ i l b. refl)) (each-lined h)))
+  pub answer-forms : each (answerForm w) (answersOf h g) ≡ true
+  answer-forms = rw answers-of (passes-each (answerForm w) (each-answered w wide (answer-form w) (each-from vs 0 (λ i l b. refl)) (each-line h)))
 
   -- so the form is right
-  pub form-holds : formHolds g ≡ true
+  pub form-holds : formHolds h g ≡ true
   unfolding formHolds footerHolds
   form-holds = rw (length-form, head-form, answer-forms, foot-of, foot-form)
 
@@ -206,7 +217,7 @@ module _ (reception h vs : List ℕ) (dated : length reception ≡ 14) (sized : 
       )
 
   -- `00` or `01` fits
-  pub outcome-holds : outcomeHolds g ≡ true
+  pub outcome-holds : outcomeHolds h g ≡ true
   unfolding outcomeHolds
   outcome-holds =
       rw (
@@ -220,6 +231,6 @@ module _ (reception h vs : List ℕ) (dated : length reception ≡ 14) (sized : 
   reception-is = field-of 33 46 (omega arith) (omega arith) (omega arith) ∙ head-reception reception h (tally good vs) (tally bad vs) dated long
 
   -- the texts of the rejected lines, in file order
-  pub copies-of : copiesOf g ≡ pick bad vs (textsOf h)
+  pub copies-of : copiesOf h g ≡ pick bad vs (textsOf h)
   unfolding copiesOf textsOf
-  copies-of = rw answers-of (texts-answers vs (each-lined h))
+  copies-of = rw answers-of (texts-answers w wide vs (each-line h))

@@ -15,6 +15,7 @@ use Rattle.fields.specs.Field.{digit, zeroDigit, plain}
 use Rattle.times.specs.Time.{realTime}
 use Rattle.times.specs.laws.Moment.{real-length}
 use Rattle.times.specs.Order.{earlier}
+use Rattle.sizes.specs.Sizes.{slotEnd}
 use Rattle.columns.specs.Columns.{text, actor, validTo}
 use Rattle.vehicles.specs.Vehicle.{tariffHolds, classHolds, emissionHolds, productHolds, engineHolds, validToHolds, separatorHolds, fieldsHold, weightHolds, vehicleHolds}
 use Rattle.vehicles.specs.laws.Parts.{vehicle-parts}
@@ -27,7 +28,7 @@ use Rattle.records.specs.laws.Written.{record-front, record-rest, record
 -- the rules ask for every position that a record takes over
 pub record-long : (l : List ℕ) → recordHolds l ≡ true → lineLeast ≤ length l
 unfolding field
-record-long l h = omega (arith, simp (length-take, length-drop) at (run-length plain 126 (text l) (record-plain l h)))
+record-long l h = omega (arith, simp (length-take, length-drop) at (run-length plain 126 (text slotEnd l) (record-plain l h)))
 
 valid-in : (l : List ℕ) → recordHolds l ≡ true → validToHolds l ≡ true
 unfolding recordHolds

@@ -2,12 +2,11 @@
 use mathlib.Core.Path.{_≡_}
 use mathlib.Core.List.{List}
 use Prim.Native.Nat.{ℕ}
+use Rattle.importer.specs.Handed.{Handed}
 use Rattle.importer.specs.laws.Outcomes.{import-one}
 use Rattle.service.specs.Promises.{answered, GraftspindleImport}
 
-module _ (mode : ℕ) (reception register rows h hgc : List ℕ) (n n′ t t′ r r′ l l′ : ℕ) (b b′ g g′ : List ℕ) where
-  pub graftspindle-import-one : GraftspindleImport mode reception register rows h hgc n t r l b g
-      → GraftspindleImport mode reception register rows h hgc n′ t′ r′ l′ b′ g′
+module _ (f : Handed) (register : List ℕ) (n n′ t t′ r r′ l l′ : ℕ) (b b′ g g′ : List ℕ) where
+  pub graftspindle-import-one : GraftspindleImport f register n t r l b g → GraftspindleImport f register n′ t′ r′ l′ b′ g′
       → (answered n t r l ≡ answered n′ t′ r′ l′) × ((b ≡ b′) × (g ≡ g′))
-  graftspindle-import-one =
-      import-one mode reception register rows h hgc (answered n t r l) (answered n′ t′ r′ l′) b b′ g g′
+  graftspindle-import-one = import-one f register (answered n t r l) (answered n′ t′ r′ l′) b b′ g g′

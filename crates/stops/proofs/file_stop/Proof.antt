@@ -14,7 +14,7 @@ returns c =
     chosen _ _ _ _ _ _ (c .first8 .ensures) (ap not (c .before .has-length .ensures)) (
     chosen _ _ _ _ _ _ (c .before .before .first7 .ensures) (ap not (c .before .before .before .has-header .ensures)) (
     chosen _ _ _ _ _ _ (c .before .before .before .before .first6 .ensures) (ap not (c .before .before .before .before .before .has-version .ensures)) (
-    chosen _ _ _ _ _ _ (c .before .before .before .before .before .before .first5 .ensures) (c .before .before .before .before .before .before .before .is-not-full .ensures) (
+    chosen _ _ _ _ _ _ (c .before .before .before .before .before .before .first5 .ensures) (c .before .before .before .before .before .before .before .is-full-with-220001 .ensures) (
     chosen _ _ _ _ _ _ (c .before .before .before .before .before .before .before .before .first4 .ensures) (ap not (c .before .before .before .before .before .before .before .before .before .is-addressed .ensures)) (
     chosen _ _ _ _ _ _ (c .before .before .before .before .before .before .before .before .before .before .first3 .ensures) (ap not (c .before .before .before .before .before .before .before .before .before .before .before .has-count .ensures)) (
     chosen _ _ _ _ _ _ (c .before .before .before .before .before .before .before .before .before .before .before .before .first2 .ensures) (ap not (c .before .before .before .before .before .before .before .before .before .before .before .before .before .has-footer .ensures)) (

@@ -13,7 +13,7 @@ use Rattle.frames.specs.Frames.{footerHolds, framesHold}
 use Rattle.header.specs.Header.{headerHolds}
 use Rattle.claims.specs.Claims.{versionHolds, countHolds}
 use Rattle.register.specs.Register.{inOrder}
-use Rattle.stops.specs.Stops.{modeHolds, notFull, addressed, callStops, fileStops, formStops, formStop}
+use Rattle.stops.specs.Stops.{modeHolds, fullWith220001, addressed, callStops, fileStops, formStops, formStop}
 
 pub record Clear (mode : ℕ) (reception register b h : List ℕ) : Type 0 where
   pub moded : modeHolds mode ≡ true
@@ -23,7 +23,7 @@ pub record Clear (mode : ℕ) (reception register b h : List ℕ) : Type 0 where
   pub sized : lengthHolds h ≡ true
   pub headed : headerHolds h ≡ true
   pub versioned : versionHolds h ≡ true
-  pub fitting : notFull mode h ≡ false
+  pub fitting : fullWith220001 mode h ≡ false
   pub sent : addressed b h ≡ true
   pub counted : countHolds h ≡ true
   pub footed : footerHolds h ≡ true

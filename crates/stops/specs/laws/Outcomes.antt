@@ -4,13 +4,13 @@ use mathlib.Core.Bool.{Bool}
 use mathlib.Core.List.{List}
 use Prim.Native.Nat.{ℕ}
 use Rattle.theory.specs.laws.Outcome.{one-outcome}
-use Rattle.stops.specs.Promises.{IsMode, IsNotFull, FormStop}
+use Rattle.stops.specs.Promises.{IsMode, IsFullWith220001, FormStop}
 
 pub is-mode-one : (mode : ℕ) (r s : Bool) → IsMode mode r → IsMode mode s → r ≡ s
 is-mode-one mode r s = one-outcome
 
-pub is-not-full-one : (mode : ℕ) (h : List ℕ) (r s : Bool) → IsNotFull mode h r → IsNotFull mode h s → r ≡ s
-is-not-full-one mode h r s = one-outcome
+pub is-full-with-220001-one : (mode : ℕ) (h : List ℕ) (r s : Bool) → IsFullWith220001 mode h r → IsFullWith220001 mode h s → r ≡ s
+is-full-with-220001-one mode h r s = one-outcome
 
 pub form-stop-one : (mode : ℕ) (reception register rows h : List ℕ) (r s : ℕ)
     → FormStop mode reception register rows h r → FormStop mode reception register rows h s → r ≡ s

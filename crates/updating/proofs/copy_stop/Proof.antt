@@ -26,7 +26,7 @@ returns c =
     chosen _ _ _ _ _ _ (c₃ .first9 .ensures) (ap not (c₃ .before .has-length .ensures)) (
     chosen _ _ _ _ _ _ (c₄ .first8 .ensures) (ap not (c₄ .before .has-header .ensures)) (
     chosen _ _ _ _ _ _ (c₅ .first7 .ensures) (ap not (c₅ .before .has-version .ensures)) (
-    chosen _ _ _ _ _ _ (c₆ .first6 .ensures) (c₆ .before .is-not-full .ensures) (
+    chosen _ _ _ _ _ _ (c₆ .first6 .ensures) (c₆ .before .is-full-with-220001 .ensures) (
     chosen _ _ _ _ _ _ (c₇ .first5 .ensures) (ap not (c₇ .before .has-receiver .ensures)) (
     chosen _ _ _ _ _ _ (c₈ .first4 .ensures) (ap not (c₈ .before .is-own .ensures)) (
     chosen _ _ _ _ _ _ (c₉ .first3 .ensures) (ap not (c₉ .before .has-count .ensures)) (

@@ -19,7 +19,8 @@ use Rattle.holdings.specs.laws.Room.{used-after}
 use Rattle.applying.specs.Fit.{Fit}
 use Rattle.receipts.specs.Receipt.{receptionOf, takenBy, receiptHolds}
 use Rattle.provider.specs.laws.Held.{taken-kept, taken-apart, taken-made}
-use Rattle.updating.specs.Update.{ownHolds, following}
+use Rattle.updating.specs.Sent.{sent}
+use Rattle.updating.specs.Update.{ownHolds, copyFollowing}
 
 module _ (h g : List ℕ) (r : receiptHolds h g ≡ true) where
   -- in the sender's copy no other actor holds a PAN
@@ -28,14 +29,14 @@ module _ (h g : List ℕ) (r : receiptHolds h g ≡ true) where
   taken-free copy o = each-map (λ l e. own-free (sender h) (panOf l) (each-passes (ofActor (sender h)) (records copy) o)) (taken-kept h g r)
 
   -- the number of records that follow, as it is reckoned
-  pub following-used : (mode : ℕ) (copy : List ℕ) → usedAfter mode (sender h) (records copy) (takenBy h g) ≡ length (following mode copy h g)
-  unfolding following
+  pub following-used : (mode : ℕ) (copy : List ℕ) → usedAfter mode (sender h) (records copy) (takenBy h g) ≡ length (copyFollowing (sent mode h g) copy)
+  unfolding copyFollowing
   following-used mode copy =
       used-after (recordOf (receptionOf g)) mode (sender h) (records copy) (takenBy h g) (each-map (λ l m. m .pan) (taken-made h g r)) (taken-apart h g r)
 
   -- the taken lines can be applied to the sender's copy
-  pub taken-fit : (mode : ℕ) (copy : List ℕ) → ownHolds copy h ≡ true → length (following mode copy h g) ≤ slotsIn copy
+  pub taken-fit : (mode : ℕ) (copy : List ℕ) → ownHolds copy h ≡ true → length (copyFollowing (sent mode h g) copy) ≤ slotsIn copy
       → Fit mode (sender h) (recordOf (receptionOf g)) (slotsIn copy) (records copy) (takenBy h g)
-  unfolding following
+  unfolding copyFollowing
   taken-fit mode copy o m =
       record { made = taken-made h g r; apart = taken-apart h g r; free = taken-free copy o; room = m }

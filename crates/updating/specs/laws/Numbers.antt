@@ -13,8 +13,9 @@ use Rattle.hgv.specs.Layout.{lengthHolds}
 use Rattle.slots.specs.Slots.{slotsIn}
 use Rattle.register.specs.Register.{inOrder}
 use Rattle.receipts.specs.Receipt.{receiptHolds}
-use Rattle.provider.specs.Answer.{refusal, counted}
-use Rattle.updating.specs.Update.{ownHolds, copyStops, following, roomStops, updateNumber, updateAnswer, updated, copyAfter}
+use Rattle.provider.specs.Answer.{stopCounts, successCounts}
+use Rattle.updating.specs.Sent.{sent}
+use Rattle.updating.specs.Update.{ownHolds, copyStops, copyFollowing, receiptStops, updateNumber, updateAnswer, copyWritten, copyAfter}
 
 copies : (mode : ℕ) (copy h : List ℕ) → numbered (copyStops mode copy h) ≡ true
 unfolding copyStops numbered
@@ -36,45 +37,45 @@ copy-sound mode copy h z = go (first-clear (copyStops mode copy h) (copies mode 
 
 module _ (mode : ℕ) (copy h g : List ℕ) where
   abbrev number : ℕ
-  number = updateNumber mode copy h g
+  number = updateNumber (sent mode h g) copy
 
   pub update-copy : (n : ℕ) → n ≡ first (copyStops mode copy h) → (n ≡ 0 → ⊥) → n ≡ number
   unfolding updateNumber
-  update-copy = by-first (copyStops mode copy h) (roomStops mode copy h g) (copies mode copy h)
+  update-copy = by-first (copyStops mode copy h) (receiptStops (sent mode h g) copy) (copies mode copy h)
 
   module _ (z : first (copyStops mode copy h) ≡ 0) where
-    update-behind : (n : ℕ) → n ≡ first (roomStops mode copy h g) → n ≡ number
+    update-behind : (n : ℕ) → n ≡ first (receiptStops (sent mode h g) copy) → n ≡ number
     unfolding updateNumber
-    update-behind = by-second (copyStops mode copy h) (roomStops mode copy h g) (copies mode copy h) z
+    update-behind = by-second (copyStops mode copy h) (receiptStops (sent mode h g) copy) (copies mode copy h) z
 
     pub update-52 : receiptHolds h g ≡ false → 52 ≡ number
-    unfolding roomStops first choose
+    unfolding receiptStops first choose
     update-52 r = update-behind 52 (sym (rw r))
 
-    pub update-33 : receiptHolds h g ≡ true → slotsIn copy < length (following mode copy h g) → 33 ≡ number
-    unfolding roomStops first choose
-    update-33 r l = update-behind 33 (sym (rw (r, lt-ltb (slotsIn copy) (length (following mode copy h g)) l)))
+    pub update-33 : receiptHolds h g ≡ true → slotsIn copy < length (copyFollowing (sent mode h g) copy) → 33 ≡ number
+    unfolding receiptStops first choose
+    update-33 r l = update-behind 33 (sym (rw (r, lt-ltb (slotsIn copy) (length (copyFollowing (sent mode h g) copy)) l)))
 
-    pub update-done : receiptHolds h g ≡ true → length (following mode copy h g) ≤ slotsIn copy → 0 ≡ number
-    unfolding roomStops first choose
-    update-done r l = update-behind 0 (sym (rw (r, le-ltb (slotsIn copy) (length (following mode copy h g)) l)))
+    pub update-done : receiptHolds h g ≡ true → length (copyFollowing (sent mode h g) copy) ≤ slotsIn copy → 0 ≡ number
+    unfolding receiptStops first choose
+    update-done r l = update-behind 0 (sym (rw (r, le-ltb (slotsIn copy) (length (copyFollowing (sent mode h g) copy)) l)))
 
   -- a stop
   module _ (n : ℕ) (e : n ≡ number) (k : n ≡ 0 → ⊥) where
-    pub update-refused : refusal n ≡ updateAnswer mode copy h g
+    pub update-refused : stopCounts n ≡ updateAnswer (sent mode h g) copy
     unfolding updateAnswer
-    update-refused = sym (rw (← e) (at-stop n _ (refusal n) k))
+    update-refused = sym (rw (← e) (at-stop n _ (stopCounts n) k))
 
-    pub copy-stays : copy ≡ copyAfter mode copy h g
+    pub copy-stays : copy ≡ copyAfter (sent mode h g) copy
     unfolding copyAfter
     copy-stays = sym (rw (← e) (at-stop n _ copy k))
 
   -- success
   module _ (e : 0 ≡ number) where
-    pub update-counted : counted h g ≡ updateAnswer mode copy h g
+    pub update-counted : successCounts h g ≡ updateAnswer (sent mode h g) copy
     unfolding updateAnswer
     update-counted = sym (at-success number _ _ (sym e))
 
-    pub copy-updated : updated mode copy h g ≡ copyAfter mode copy h g
+    pub copy-updated : copyWritten (sent mode h g) copy ≡ copyAfter (sent mode h g) copy
     unfolding copyAfter
     copy-updated = sym (at-success number _ _ (sym e))

@@ -4,9 +4,9 @@ use mathlib.Core.List.{List}
 use Prim.Native.Nat.{ℕ}
 use Rattle.theory.specs.laws.Outcome.{one-outcome}
 use Rattle.provider.specs.declared.Counted.{Counted}
+use Rattle.updating.specs.Sent.{Sent}
 use Rattle.updating.specs.Promises.{Update}
 
-pub update-one : (mode : ℕ) (copy h g : List ℕ) (r r′ : Counted) (b b′ : List ℕ)
-    → Update mode copy h g r b → Update mode copy h g r′ b′ → (r ≡ r′) × (b ≡ b′)
+pub update-one : (s : Sent) (copy : List ℕ) (r r′ : Counted) (b b′ : List ℕ) → Update s copy r b → Update s copy r′ b′ → (r ≡ r′) × (b ≡ b′)
 unfolding Update
-update-one mode copy h g r r′ b b′ o o′ = (one-outcome (o .0) (o′ .0), one-outcome (o .1) (o′ .1))
+update-one s copy r r′ b b′ o o′ = (one-outcome (o .0) (o′ .0), one-outcome (o .1) (o′ .1))
