@@ -12,7 +12,7 @@ use borrow.Author.Tests.{eqb-true, leb-false, not-true}
 use Rattle.theory.specs.Text.{byte, bytes}
 use Rattle.theory.specs.laws.Truth.{and-left, and-right, and-split, or-true, either, joined, joined-each}
 use Rattle.theory.specs.Each.{Each, none, more}
-use Rattle.theory.specs.laws.Each.{each-map, each-both}
+use Rattle.theory.specs.laws.Each.{each-both}
 use Rattle.theory.specs.Every.{all, run}
 use Rattle.theory.specs.laws.Every.{all-run, all-at, run-wider}
 use Rattle.theory.specs.Table.{tableFrom, tableOf}
@@ -22,7 +22,7 @@ use Rattle.texts.specs.Field.{field, listed}
 use Rattle.texts.specs.laws.Field.{field-field}
 use Rattle.fields.specs.Field.{digit, zeroDigit, blank, capital, plain}
 use Rattle.fields.specs.laws.Listed.{listed-run}
-use Rattle.fields.specs.laws.Spans.{Span, span, orBlank, oneOf, cover, admitted, Held, covered-at, spans-run}
+use Rattle.fields.specs.laws.Spans.{Span, span, orBlank, oneOf, cover, admitted, Held, Fixes, spans-held, covered-at, spans-run}
 use Rattle.characters.specs.Characters.{hex, filled}
 use Rattle.characters.specs.laws.Filled.{filled-all}
 use Rattle.numbers.specs.Number.{number}
@@ -136,7 +136,7 @@ module _ (l : List ℕ) where
       (listed-run (oneOf (bytes "01234569")) 2 _ (fuel l) refl (s₁ .0), listed-run (oneOf (bytes "YN")) 1 _ (chargeable l) refl (s₁ .1), s₂ .1)
 
   -- each rule holds only where its positions are there and hold what it admits
-  pub spans-hold : Each (λ r. r .rule l ≡ true → Held l r) spans
+  pub spans-hold : Each (Fixes l) spans
   unfolding spans L8 L9
   spans-hold =
       let part : vehicleHolds l ≡ true → Parts l = vehicle-parts l in
@@ -174,7 +174,7 @@ module _ (l : List ℕ) where
 
   -- T17: so where the rules of a record hold, all positions do
   pub record-covered : recordHolds l ≡ true → Each (Held l) spans
-  record-covered h = each-map (λ r x. x .1 (x .0)) (each-both (record-rules h) spans-hold)
+  record-covered h = spans-held (record-rules h) spans-hold
 
   -- and the byte at each is one that the table admits there
   pub record-at : recordHolds l ≡ true → (p : ℕ) → 2 ≤ p → p ≤ 127 → admitted spans p (getD l (p - 1) 0) ≡ true
@@ -191,7 +191,7 @@ module _ (l : List ℕ) where
       (more (m .co2-digits, digits)
       (more (m .weight-digits, digits)
       (more (valid-held (m .valid-holds), digits)
-      (more (separator-held (m .separator-holds), digits) none))))) .1
+      (more (separator-held (m .separator-holds), digits) none)))))
 
 -- no span admits a control character
 clear : List Span → Bool
@@ -223,4 +223,4 @@ spans-plain (r ∷ rs) c = more (λ b. go b (plain b) refl) (spans-plain rs (and
 
 -- so no byte of a record is one
 pub record-plain : (l : List ℕ) → recordHolds l ≡ true → run plain 126 (text l) ≡ true
-record-plain l h = spans-run l plain spans 2 127 (omega arith) spans-cover (each-both (record-covered l h) (spans-plain spans spans-clear)) .1
+record-plain l h = spans-run l plain spans 2 127 (omega arith) spans-cover (each-both (record-covered l h) (spans-plain spans spans-clear))
