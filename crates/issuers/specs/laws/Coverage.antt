@@ -14,7 +14,7 @@ use Rattle.theory.specs.Every.{all, run, leading}
 use Rattle.theory.specs.laws.Every.{run-length, all-run, all-take, all-drop, leading-all}
 use Rattle.sizes.specs.Sizes.{rowLength}
 use Rattle.texts.specs.Field.{field}
-use Rattle.texts.specs.laws.Field.{field-length}
+use Rattle.texts.specs.laws.Field.{field-length, field-field}
 use Rattle.fields.specs.Field.{digit}
 use Rattle.fields.specs.laws.Spans.{Span, span, orBlank, cover, admitted, Held, covered-at}
 use Rattle.characters.specs.Characters.{filled}
@@ -34,6 +34,10 @@ pub row-cover : cover 1 rowLength rowSpans ≡ true
 unfolding cover rowSpans
 row-cover = refl
 
+all-field : (p : ℕ → Bool) (a b : ℕ) (s : List ℕ) → all p s ≡ true → all p (field a b s) ≡ true
+unfolding field
+all-field p a b s h = all-take p (b + 1 - a) (drop (a - 1) s) (all-drop p (a - 1) s h)
+
 module _ (r : List ℕ) where
   -- six digits in front
   bin-digits : leb 6 (leading digit (bin r)) ≡ true → 24 ≤ length r → run digit 6 (field 1 6 r) ≡ true
@@ -45,10 +49,14 @@ module _ (r : List ℕ) where
 
   -- digits or blanks behind them
   bin-rest : filled digit (bin r) ≡ true → 24 ≤ length r → run (orBlank digit) 8 (field 7 14 r) ≡ true
-  unfolding field
   bin-rest h l =
-      all-run (orBlank digit) 8 (field 7 14 r) (field-length 7 14 r (omega arith) (omega arith))
-      (rw (drop-take 6 14 r) at (all-drop (orBlank digit) 6 (bin r) (filled-all digit (bin r) h)))
+      let a : all (orBlank digit) (field 7 14 (bin r)) ≡ true = all-field (orBlank digit) 7 14 (bin r) (filled-all digit (bin r) h) in
+      all-run (orBlank digit) 8 (field 7 14 r) (field-length 7 14 r (omega arith) (omega arith)) (rw (field-field 7 14 1 14 r (omega arith) (omega arith) (omega arith)) at a)
+
+  -- a row with an actor is long enough
+  row-long : run digit 6 (rowActor r) ≡ true → 24 ≤ length r
+  unfolding field
+  row-long h = omega (arith, simp (length-take, length-drop) at (run-length digit 6 (take 6 (drop 18 r)) h))
 
 module _ (r : List ℕ) (form : rowHolds r ≡ true) where
   pub row-covered : Each (Held r) rowSpans
@@ -62,7 +70,7 @@ module _ (r : List ℕ) (form : rowHolds r ≡ true) where
 
       go : Each (λ b. b ≡ true) (leb 6 (leading digit (bin r)) ∷ behind) → Each (Held r) rowSpans
       go (more six (more f (more i (more a (more b (more c (more n (more d (more e (more t none)))))))))) =
-          let l : 24 ≤ length r = field-reaches 19 24 r (run-length digit 6 (rowActor r) t) in
+          let l : 24 ≤ length r = row-long r t in
           more (bin-digits r six l) (more (bin-rest r f l) (more i (more n (more t none))))
 
   -- the byte at each is one that the table admits there
