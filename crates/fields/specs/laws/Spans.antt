@@ -66,8 +66,8 @@ one-rule rule none f = none
 one-rule rule (more e es) f = more (λ h. each-head (f (sym e ∙ h))) (one-rule rule es (λ h. each-tail (f h)))
 
 -- a text that stands there
-pub same-held : (p : ℕ → Bool) (n : ℕ) (f t : List ℕ) → eqs f t ≡ true → run p n t ≡ true → run p n f ≡ true
-same-held p n f t e h = rw (eqs-true f t e) h
+pub same-held : (p : ℕ → Bool) (n : ℕ) (f t : List ℕ) → run p n t ≡ true → eqs f t ≡ true → run p n f ≡ true
+same-held p n f t h e = rw (eqs-true f t e) h
 
 -- a cover ends where it has to, and no span of it goes further
 cover-most : (rs : List Span) (a b : ℕ) → cover a b rs ≡ true → a ≤ b + 1
@@ -93,8 +93,8 @@ module _ (l : List ℕ) where
       rw w (rw (field-field (r .from) (r .to) (k + 1) (k + c) l o (omega arith) (omega arith), a, b) at h)
 
   -- a span of a text that stands behind position k
-  pub text-held : (k c : ℕ) (t : List ℕ) (r : Span) → eqs (field (k + 1) (k + c) l) t ≡ true → 1 ≤ r .from → r .to ≤ c → Held t r → Held l (moved k r)
-  text-held k c t r e o m h = moved-held k c r o m (rw (eqs-true (field (k + 1) (k + c) l) t e) h)
+  pub text-held : (k c : ℕ) (t : List ℕ) (r : Span) → 1 ≤ r .from → r .to ≤ c → Held t r → eqs (field (k + 1) (k + c) l) t ≡ true → Held l (moved k r)
+  text-held k c t r o m h e = moved-held k c r o m (rw (eqs-true (field (k + 1) (k + c) l) t e) h)
 
   pub each-moved : (k a c : ℕ) (rs : List Span) → 1 ≤ a → cover a c rs ≡ true → Each (Held (field (k + 1) (k + c) l)) rs → Each (Held l) (map (moved k) rs)
   unfolding cover

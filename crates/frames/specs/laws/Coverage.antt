@@ -1,6 +1,6 @@
 -- Each position of a footer from 1 to 64 is fixed by its form, beside T17. Assumes nothing.
 use mathlib.Core.Path.{_≡_, refl}
-use mathlib.Core.Bool.{Bool, true, _&&_}
+use mathlib.Core.Bool.{Bool, true}
 use mathlib.Core.List.{List, [], _∷_}
 use Prim.Native.Nat.{ℕ, _-_, _≤_}
 use native.Mathlib.Omega.{arith}
@@ -38,9 +38,9 @@ module _ (f : List ℕ) (form : footerForm f ≡ true) where
 
       go : Each (λ b. b ≡ true) (eqb (length f) footerLength ∷ behind) → Each (Held f) footerSpans
       go (more l (more t (more z (more e none)))) =
-          more (same-held (oneOf (bytes "2")) 1 (field 1 1 f) (bytes "2") t refl)
+          more (same-held (oneOf (bytes "2")) 1 (field 1 1 f) (bytes "2") refl t)
           (more z
-          (more (same-held (oneOf lineEnd) 1 (field 64 64 f) lineEnd e refl) none))
+          (more (same-held (oneOf lineEnd) 1 (field 64 64 f) lineEnd refl e) none))
 
   -- the byte at each is one that the table admits there
   pub footer-at : (p : ℕ) → 1 ≤ p → p ≤ footerLength → admitted footerSpans p (getD f (p - 1) 0) ≡ true

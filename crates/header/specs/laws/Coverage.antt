@@ -1,12 +1,11 @@
 -- Each position of a header but the version's (95-100) is fixed by a field of its form (26): a table of the positions, the field
 -- that fixes them and the bytes that it admits there. Assumes nothing.
 use mathlib.Core.Path.{_≡_, refl}
-use mathlib.Core.Bool.{Bool, true, _&&_, _||_}
+use mathlib.Core.Bool.{Bool, true, _&&_}
 use mathlib.Core.List.{List, [], _∷_, _++_, map}
 use Prim.Native.Nat.{ℕ}
-use native.Mathlib.Omega.{arith}
 use Rattle.theory.specs.Text.{bytes}
-use Rattle.theory.specs.laws.Truth.{and-split, and-both, either, joined, joined-each}
+use Rattle.theory.specs.laws.Truth.{and-split, and-both, either}
 use Rattle.theory.specs.Same.{eqs}
 use Rattle.theory.specs.laws.Same.{eqs-true}
 use Rattle.theory.specs.Each.{Each, none, more}
@@ -22,6 +21,7 @@ use Rattle.times.specs.laws.Moment.{real-length, real-all}
 use Rattle.sequences.specs.Sequence.{sequence}
 use Rattle.sequences.specs.laws.Coverage.{sequenceSpans, sequence-covered, sequence-fixes}
 use Rattle.header.specs.Header.{sender, receiver, listSequence, previous, noList, previousHolds, count, creation, headerHolds}
+use Rattle.header.specs.laws.Header.{header-fields}
 
 -- ---- the fields of the form
 
@@ -103,7 +103,7 @@ module _ (h : List ℕ) where
   pub front-fixed : Each (Fixes h) front
   unfolding front sequenceSpans oneOf run all
   front-fixed =
-      more (λ e. same-held (oneOf (bytes "0")) 1 (field 1 1 h) (bytes "0") e refl)
+      more (same-held (oneOf (bytes "0")) 1 (field 1 1 h) (bytes "0") refl)
       (more (λ e. e)
       (more (λ e. e)
       (each-append (sequence-fixes listForm 13 h list-held)
@@ -114,25 +114,23 @@ module _ (h : List ℕ) where
 
   pub back-fixed : Each (Fixes h) back
   unfolding back oneOf run all
-  back-fixed = more (λ e. e) (more (λ e. same-held (oneOf lineEnd) 1 (field 128 128 h) lineEnd e refl) none)
+  back-fixed = more (λ e. e) (more (same-held (oneOf lineEnd) 1 (field 128 128 h) lineEnd refl) none)
 
   -- the fields of the form are those of the spans
   header-rules : headerHolds h ≡ true → Each (λ r. r .rule h ≡ true) front × Each (λ r. r .rule h ≡ true) back
-  unfolding headerHolds front back sequenceSpans joined
-  header-rules e = go (joined-each (typeForm h) behind e)
+  unfolding front back sequenceSpans
+  header-rules e = go (header-fields h e)
     where
-      behind : List Bool
-      behind =
-          senderForm h ∷ receiverForm h ∷ sequence (sender h) (listSequence h) ∷ previousHolds h ∷ zerosForm h ∷ countForm h ∷ creationForm h
-          ∷ fillerForm h ∷ endForm h ∷ []
-
-      go : Each (λ b. b ≡ true) (typeForm h ∷ behind) → Each (λ r. r .rule h ≡ true) front × Each (λ r. r .rule h ≡ true) back
+      go : Each (λ b. b ≡ true)
+          (typeForm h ∷ senderForm h ∷ receiverForm h ∷ sequence (sender h) (listSequence h) ∷ previousHolds h ∷ zerosForm h ∷ countForm h ∷ creationForm h ∷ fillerForm h ∷ endForm h ∷ [])
+          → Each (λ r. r .rule h ≡ true) front × Each (λ r. r .rule h ≡ true) back
       go (more t (more s (more r (more q (more o (more z (more n (more c (more f (more d none)))))))))) =
           let l : listForm h ≡ true = and-both (senderForm h) (sequence (sender h) (listSequence h)) s q in
-          let p : previousForm h ≡ true = and-both (senderForm h) (previousHolds h) s o in
-          (more t (more s (more r (more l (more l (more l (more l (more l (more l
-          (more p (more p (more p (more p (more p (more p (more z (more n (more c none))))))))))))))))),
-          more f (more d none))
+          let p : previousForm h ≡ true = and-both (senderForm h) (previousHolds h) s o in (
+            more t (more s (more r (more l (more l (more l (more l (more l (more l
+                (more p (more p (more p (more p (more p (more p (more z (more n (more c none))))))))))))))))),
+            more f (more d none),
+          )
 
   -- so where the form holds, all positions do but the version's
   pub header-covered : headerHolds h ≡ true → Each (Held h) front × Each (Held h) back

@@ -1,6 +1,6 @@
 -- Each position of a list sequence is fixed by a part of it. Assumes nothing.
 use mathlib.Core.Path.{_≡_, refl}
-use mathlib.Core.Bool.{Bool, true, _&&_}
+use mathlib.Core.Bool.{Bool, true}
 use mathlib.Core.List.{List, [], _∷_, map}
 use Prim.Native.Nat.{ℕ, _+_, _≤_}
 use native.Mathlib.Omega.{arith}
@@ -40,7 +40,7 @@ module _ (rule : List ℕ → Bool) where
   sequence-cover = refl
 
   module _ (from f : List ℕ) where
-    titled : (r : Span) → eqs (field 1 3 f) (bytes "HGV") ≡ true → 1 ≤ r .from → r .to ≤ 3 → Held (bytes "HGV") r → Held f (moved 0 r)
+    titled : (r : Span) → 1 ≤ r .from → r .to ≤ 3 → Held (bytes "HGV") r → eqs (field 1 3 f) (bytes "HGV") ≡ true → Held f (moved 0 r)
     titled = text-held f 0 3 (bytes "HGV")
 
     -- where the sender is six digits, a sequence of his has bytes that are admitted
@@ -53,10 +53,10 @@ module _ (rule : List ℕ → Bool) where
 
         go : Each (λ b. b ≡ true) (eqb (length f) 19 ∷ behind) → Each (Held f) (sequenceSpans rule)
         go (more l (more t (more a (more d (more n (more m none)))))) =
-            more (titled (span 1 1 rule (oneOf (bytes "H"))) t (omega arith) (omega arith) refl)
-            (more (titled (span 2 2 rule (oneOf (bytes "G"))) t (omega arith) (omega arith) refl)
-            (more (titled (span 3 3 rule (oneOf (bytes "V"))) t (omega arith) (omega arith) refl)
-            (more (same-held digit 6 (field 4 9 f) from a s)
+            more (titled (span 1 1 rule (oneOf (bytes "H"))) (omega arith) (omega arith) refl t)
+            (more (titled (span 2 2 rule (oneOf (bytes "G"))) (omega arith) (omega arith) refl t)
+            (more (titled (span 3 3 rule (oneOf (bytes "V"))) (omega arith) (omega arith) refl t)
+            (more (same-held digit 6 (field 4 9 f) from s a)
             (more (date-digits (field 10 17 f) d)
             (more n none)))))
 
