@@ -1,3 +1,4 @@
 pub mod Receipt
+pub mod HeadCoverage
 pub mod Written
 pub mod Outcomes

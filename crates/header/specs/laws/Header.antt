@@ -15,15 +15,22 @@ use Rattle.times.specs.Time.{realTime}
 use Rattle.sequences.specs.Sequence.{sequence}
 use Rattle.header.specs.Header.{sender, receiver, listSequence, previousHolds, count, creation, headerHolds}
 
-pub header-sender : (h : List ℕ) → headerHolds h ≡ true → run digit 6 (sender h) ≡ true
-unfolding headerHolds joined
-header-sender h e = sender-holds (joined-each (eqs (field 1 1 h) (bytes "0")) (run digit 6 (sender h) ∷ behind) e)
-  where
-    behind : List Bool
-    behind =
-        run digit 6 (receiver h) ∷ sequence (sender h) (listSequence h) ∷ previousHolds h ∷ run zeroDigit 14 (field 52 65 h)
-        ∷ run digit 15 (count h) ∷ realTime (creation h) ∷ run zeroDigit 27 (field 101 127 h)
-        ∷ eqs (field headerLength headerLength h) lineEnd ∷ []
+module _ (h : List ℕ) (form : headerHolds h ≡ true) where
+  -- field by field
+  pub header-fields : Each (λ c. c ≡ true)
+      (eqs (field 1 1 h) (bytes "0") ∷ run digit 6 (sender h) ∷ run digit 6 (receiver h) ∷ sequence (sender h) (listSequence h) ∷ previousHolds h ∷ run zeroDigit 14 (field 52 65 h)
+      ∷ run digit 15 (count h) ∷ realTime (creation h) ∷ run zeroDigit 27 (field 101 127 h) ∷ eqs (field headerLength headerLength h) lineEnd ∷ [])
+  unfolding headerHolds joined
+  header-fields = joined-each (eqs (field 1 1 h) (bytes "0")) _ form
 
-    sender-holds : {a b : Bool} {cs : List Bool} → Each (λ c. c ≡ true) (a ∷ b ∷ cs) → b ≡ true
-    sender-holds (more x (more y zs)) = y
+  pub header-sender : run digit 6 (sender h) ≡ true
+  header-sender = go header-fields
+    where
+      go : {a b : Bool} {cs : List Bool} → Each (λ c. c ≡ true) (a ∷ b ∷ cs) → b ≡ true
+      go (more x (more y zs)) = y
+
+  pub header-list : sequence (sender h) (listSequence h) ≡ true
+  header-list = go header-fields
+    where
+      go : {a b c d : Bool} {cs : List Bool} → Each (λ c. c ≡ true) (a ∷ b ∷ c ∷ d ∷ cs) → d ≡ true
+      go (more x (more y (more z (more w zs)))) = w

@@ -4,25 +4,25 @@
 use mathlib.Core.Path.{_≡_, refl, sym, _∙_}
 use mathlib.Core.Bool.{Bool, true, false, not, _&&_, _||_, true≢false}
 use mathlib.Core.List.{List, [], _∷_}
-use Prim.Native.Nat.{ℕ, _+_, _-_, _≤_, _<_}
+use Prim.Native.Nat.{ℕ, _-_, _≤_, _<_}
 use native.Mathlib.Omega.{arith}
 use lib.Dec.{eqb, leb}
-use lib.ListN.{length, take, drop, getD}
-use lib.Seq.{getD-take, getD-drop}
-use borrow.Author.Tests.{eqb-true, leb-true, leb-false, le-leb, not-true}
+use lib.ListN.{length, getD}
+use borrow.Author.Tests.{eqb-true, leb-false, not-true}
 use Rattle.theory.specs.Text.{byte, bytes}
-use Rattle.theory.specs.laws.Truth.{and-left, and-right, and-split, or-true, joined, joined-each}
+use Rattle.theory.specs.laws.Truth.{and-left, and-right, and-split, or-true, either, joined, joined-each}
 use Rattle.theory.specs.Each.{Each, none, more}
-use Rattle.theory.specs.laws.Each.{each-map, each-both}
+use Rattle.theory.specs.laws.Each.{each-both}
 use Rattle.theory.specs.Every.{all, run}
-use Rattle.theory.specs.laws.Every.{run-length, run-all, all-run, all-at, run-wider, run-append}
+use Rattle.theory.specs.laws.Every.{all-run, all-at, run-wider}
 use Rattle.theory.specs.Table.{tableFrom, tableOf}
 use Rattle.theory.specs.laws.Table.{entry, length-table}
 use Rattle.sizes.specs.Sizes.{slotEnd, timeLength}
 use Rattle.texts.specs.Field.{field, listed}
-use Rattle.texts.specs.laws.Field.{field-most, field-split, field-field}
-use Rattle.fields.specs.Field.{between, digit, zeroDigit, blank, capital, plain}
+use Rattle.texts.specs.laws.Field.{field-field}
+use Rattle.fields.specs.Field.{digit, zeroDigit, blank, capital, plain}
 use Rattle.fields.specs.laws.Listed.{listed-run}
+use Rattle.fields.specs.laws.Spans.{Span, span, orBlank, oneOf, cover, admitted, Held, Fixes, spans-held, covered-at, spans-run}
 use Rattle.characters.specs.Characters.{hex, filled}
 use Rattle.characters.specs.laws.Filled.{filled-all}
 use Rattle.numbers.specs.Number.{number}
@@ -34,24 +34,6 @@ use Rattle.columns.specs.Columns.{text, actor, panOf, plateOf, nationalityOf, t
 use Rattle.vehicles.specs.Vehicle.{tariffHolds, classHolds, emissionHolds, productHolds, engineHolds, validToHolds, separatorHolds, vehicleHolds, weightHolds}
 use Rattle.vehicles.specs.laws.Parts.{Parts, vehicle-parts}
 use Rattle.lines.specs.Rules.{L1, L5, L6, L7, L8, L9, recordHolds}
-
--- positions `from` to `to`, the rule that fixes them, and the bytes that it admits there
-pub record Span : Type 0 where
-  pub from : ℕ
-  pub to : ℕ
-  pub rule : List ℕ → Bool
-  pub admits : ℕ → Bool
-
-abbrev span : ℕ → ℕ → (List ℕ → Bool) → (ℕ → Bool) → Span
-span from to rule admits = record { from = from; to = to; rule = rule; admits = admits }
-
-abbrev orBlank : (ℕ → Bool) → ℕ → Bool
-orBlank p b = p b || blank b
-
--- one of these characters
-unfoldable pub oneOf : List ℕ → ℕ → Bool
-oneOf [] b = false
-oneOf (x ∷ xs) b = eqb b x || oneOf xs b
 
 -- a record's actor has six digits
 abbrev sixDigits : List ℕ → Bool
@@ -82,30 +64,11 @@ spans =
     ∷ span 117 127 vehicleHolds zeroDigit
     ∷ []
 
--- the spans go from the position a to b, without gap or overlap
-unfoldable pub cover : ℕ → ℕ → List Span → Bool
-cover a b [] = eqb a (b + 1)
-cover a b (r ∷ rs) = eqb a (r .from) && leb a (r .to) && cover (r .to + 1) b rs
-
 pub spans-cover : cover 2 127 spans ≡ true
 unfolding cover spans
 spans-cover = refl
 
--- a span lies at a position, and admits this byte there
-unfoldable pub admitted : List Span → ℕ → ℕ → Bool
-admitted [] p b = false
-admitted (r ∷ rs) p b = between (r .from) (r .to) p && r .admits b || admitted rs p b
-
--- the span's positions are all there, and what stands in them is admitted
-abbrev pub Held : List ℕ → Span → Type 0
-Held l r = run (r .admits) (r .to + 1 - r .from) (field (r .from) (r .to) l) ≡ true
-
 -- ---- span by span
-
--- one of two tests holds
-either : (P : Type 0) (a b : Bool) → a || b ≡ true → (a ≡ true → P) → (b ≡ true → P) → P
-either P true b h f g = f refl
-either P false b h f g = g h
 
 zero-digit : (b : ℕ) → zeroDigit b ≡ true → digit b ≡ true
 zero-digit b h = let s = within (byte "0") (byte "0") b h in let e : b ≡ byte "0" = omega arith in rw e
@@ -173,7 +136,7 @@ module _ (l : List ℕ) where
       (listed-run (oneOf (bytes "01234569")) 2 _ (fuel l) refl (s₁ .0), listed-run (oneOf (bytes "YN")) 1 _ (chargeable l) refl (s₁ .1), s₂ .1)
 
   -- each rule holds only where its positions are there and hold what it admits
-  pub spans-hold : Each (λ r. r .rule l ≡ true → Held l r) spans
+  pub spans-hold : Each (Fixes l) spans
   unfolding spans L8 L9
   spans-hold =
       let part : vehicleHolds l ≡ true → Parts l = vehicle-parts l in
@@ -211,62 +174,11 @@ module _ (l : List ℕ) where
 
   -- T17: so where the rules of a record hold, all positions do
   pub record-covered : recordHolds l ≡ true → Each (Held l) spans
-  record-covered h = each-map (λ r x. x .1 (x .0)) (each-both (record-rules h) spans-hold)
-
-  -- ---- position by position
-
-  held-at : (r : Span) (p : ℕ) → Held l r → 1 ≤ r .from → r .from ≤ p → p ≤ r .to → r .admits (getD l (p - 1) 0) ≡ true
-  unfolding field
-  held-at r p h o a b =
-      let n : ℕ = r .to + 1 - r .from in
-      let i : ℕ = p - r .from in
-      let d : List ℕ = drop (r .from - 1) l in
-      let k : r .from - 1 + i ≡ p - 1 = omega arith in
-      let e : getD (take n d) i 0 ≡ getD l (p - 1) 0 = getD-take n d i 0 (omega arith) ∙ getD-drop (r .from - 1) l i 0 ∙ rw k in
-      rw e at (all-at (r .admits) (take n d) i (run-all (r .admits) n (take n d) h) (omega (arith, run-length (r .admits) n (take n d) h)))
-
-  covered-at : (rs : List Span) (a b p : ℕ) → 1 ≤ a → cover a b rs ≡ true → Each (Held l) rs → a ≤ p → p ≤ b → admitted rs p (getD l (p - 1) 0) ≡ true
-  unfolding cover admitted
-  covered-at [] a b p o c hs x y = absurd (omega (arith, eqb-true a (b + 1) c))
-  covered-at (r ∷ rs) a b p o c (more h hs) x y =
-      let s₂ = and-split (eqb a (r .from) && leb a (r .to)) (cover (r .to + 1) b rs) c in
-      let s₁ = and-split (eqb a (r .from)) (leb a (r .to)) (s₂ .0) in
-      let e₁ : a ≡ r .from = eqb-true a (r .from) (s₁ .0) in
-      let e₂ : a ≤ r .to = leb-true a (r .to) (s₁ .1) in
-      go (leb p (r .to)) (getD l (p - 1) 0) refl (omega arith) (held-at r p h (omega arith) (omega arith))
-      (λ k. covered-at rs (r .to + 1) b p (omega arith) (s₂ .1) hs k y)
-    where
-      go : (t : Bool) (v : ℕ) → leb p (r .to) ≡ t → r .from ≤ p → (p ≤ r .to → r .admits v ≡ true) → (r .to + 1 ≤ p → admitted rs p v ≡ true)
-          → between (r .from) (r .to) p && r .admits v || admitted rs p v ≡ true
-      go true v e j now later = rw (le-leb (r .from) p j, e, now (leb-true p (r .to) e))
-      go false v e j now later = or-true (between (r .from) (r .to) p && r .admits v) (admitted rs p v) (later (omega (arith, leb-false p (r .to) e)))
+  record-covered h = spans-held (record-rules h) spans-hold
 
   -- and the byte at each is one that the table admits there
   pub record-at : recordHolds l ≡ true → (p : ℕ) → 2 ≤ p → p ≤ 127 → admitted spans p (getD l (p - 1) 0) ≡ true
-  record-at h p a b = covered-at spans 2 127 p (omega arith) spans-cover (record-covered h) a b
-
-  -- ---- positions that all hold bytes of one kind
-
-  spans-run : (q : ℕ → Bool) (rs : List Span) (a b : ℕ) → 1 ≤ a → cover a b rs ≡ true → Each (λ r. Held l r × ((x : ℕ) → r .admits x ≡ true → q x ≡ true)) rs
-      → (a ≤ b + 1) × (run q (b + 1 - a) (field a b l) ≡ true)
-  unfolding cover run all
-  spans-run q [] a b o c none =
-      let w : b + 1 - a ≡ 0 = omega (arith, eqb-true a (b + 1) c) in
-      (omega (arith, eqb-true a (b + 1) c), rw w (nothing (field a b l) (omega (arith, field-most a b l))))
-    where
-      nothing : (f : List ℕ) → length f ≤ 0 → run q 0 f ≡ true
-      nothing [] h = refl
-      nothing (x ∷ f) h = absurd (omega arith)
-  spans-run q (r ∷ rs) a b o c (more (h, g) hs) =
-      let s₂ = and-split (eqb a (r .from) && leb a (r .to)) (cover (r .to + 1) b rs) c in
-      let s₁ = and-split (eqb a (r .from)) (leb a (r .to)) (s₂ .0) in
-      let e : a ≡ r .from = eqb-true a (r .from) (s₁ .0) in
-      let n : a ≤ r .to = leb-true a (r .to) (s₁ .1) in
-      let rest = spans-run q rs (r .to + 1) b (omega arith) (s₂ .1) hs in
-      let m : r .to ≤ b = omega (arith, rest .0) in
-      let w : b + 1 - a ≡ (r .to + 1 - a) + (b + 1 - (r .to + 1)) = omega arith in
-      let here : run q (r .to + 1 - a) (field a (r .to) l) ≡ true = rw e (run-wider (r .admits) q g (r .to + 1 - r .from) (field (r .from) (r .to) l) h) in
-      (omega arith, rw (w, field-split a b (r .to) l o n m) (run-append q (r .to + 1 - a) (b + 1 - (r .to + 1)) (field a (r .to) l) (field (r .to + 1) b l) here (rest .1)))
+  record-at h p a b = covered-at l spans 2 127 p (omega arith) spans-cover (record-covered h) a b
 
   -- blanks are refused in 92-116: there zeros mean missing
   pub blanks-refused : vehicleHolds l ≡ true → run digit 25 (field 92 116 l) ≡ true
@@ -274,12 +186,12 @@ module _ (l : List ℕ) where
   blanks-refused h =
       let m : Parts l = vehicle-parts l h in
       let digits : (x : ℕ) → digit x ≡ true → digit x ≡ true = λ x e. e in
-      spans-run digit (span 92 94 vehicleHolds digit ∷ span 95 96 vehicleHolds digit ∷ span 97 100 vehicleHolds digit ∷ span 101 114 vehicleHolds digit ∷ span 115 116 vehicleHolds digit ∷ []) 92 116 (omega arith) refl
+      spans-run l digit (span 92 94 vehicleHolds digit ∷ span 95 96 vehicleHolds digit ∷ span 97 100 vehicleHolds digit ∷ span 101 114 vehicleHolds digit ∷ span 115 116 vehicleHolds digit ∷ []) 92 116 (omega arith) refl
       (more (engine-held (m .engine-holds), digits)
       (more (m .co2-digits, digits)
       (more (m .weight-digits, digits)
       (more (valid-held (m .valid-holds), digits)
-      (more (separator-held (m .separator-holds), digits) none))))) .1
+      (more (separator-held (m .separator-holds), digits) none)))))
 
 -- no span admits a control character
 clear : List Span → Bool
@@ -311,4 +223,4 @@ spans-plain (r ∷ rs) c = more (λ b. go b (plain b) refl) (spans-plain rs (and
 
 -- so no byte of a record is one
 pub record-plain : (l : List ℕ) → recordHolds l ≡ true → run plain 126 (text slotEnd l) ≡ true
-record-plain l h = spans-run l plain spans 2 127 (omega arith) spans-cover (each-both (record-covered l h) (spans-plain spans spans-clear)) .1
+record-plain l h = spans-run l plain spans 2 127 (omega arith) spans-cover (each-both (record-covered l h) (spans-plain spans spans-clear))
