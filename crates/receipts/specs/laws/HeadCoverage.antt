@@ -23,6 +23,7 @@ use Rattle.times.specs.Time.{realTime}
 use Rattle.times.specs.laws.Moment.{real-length, real-all}
 use Rattle.sequences.specs.laws.Coverage.{sequenceSpans, sequence-covered, sequence-fixes}
 use Rattle.frames.specs.Frames.{footerHolds}
+use Rattle.hgv.specs.Layout.{widthOf}
 use Rattle.header.specs.Header.{sender, listSequence, headerHolds}
 use Rattle.header.specs.laws.Header.{header-sender, header-list}
 use Rattle.hgc.specs.Confirmation.{outcome}
@@ -77,8 +78,8 @@ headSpans h =
     ∷ span 79 81 versionForm zeroDigit
     ∷ span 82 82 versionForm (oneOf (bytes "1"))
     ∷ span 83 107 fillerForm zeroDigit
-    ∷ span 108 108 outcomeHolds zeroDigit
-    ∷ span 109 109 outcomeHolds (oneOf (bytes "01"))
+    ∷ span 108 108 (outcomeHolds h) zeroDigit
+    ∷ span 109 109 (outcomeHolds h) (oneOf (bytes "01"))
     ∷ span 110 110 endForm (oneOf lineEnd)
     ∷ []
 
@@ -87,18 +88,18 @@ unfolding cover headSpans sequenceSpans
 head-cover h = refl
 
 -- `00` or `01`
-outcome-held : (g : List ℕ) → outcomeHolds g ≡ true → Held g (span 108 108 outcomeHolds zeroDigit) × Held g (span 109 109 outcomeHolds (oneOf (bytes "01")))
+outcome-held : (h g : List ℕ) → outcomeHolds h g ≡ true → Held g (span 108 108 (outcomeHolds h) zeroDigit) × Held g (span 109 109 (outcomeHolds h) (oneOf (bytes "01")))
 unfolding outcomeHolds outcome oneOf field run all
-outcome-held g = go (answersIn g)
+outcome-held h g = go (answersIn h g)
   where
-    go : (n : ℕ) → eqs (field 108 109 g) (outcome n) ≡ true → Held g (span 108 108 outcomeHolds zeroDigit) × Held g (span 109 109 outcomeHolds (oneOf (bytes "01")))
+    go : (n : ℕ) → eqs (field 108 109 g) (outcome n) ≡ true → Held g (span 108 108 (outcomeHolds h) zeroDigit) × Held g (span 109 109 (outcomeHolds h) (oneOf (bytes "01")))
     go zero e = (
-      text-held g 107 2 (bytes "00") (span 1 1 outcomeHolds zeroDigit) (omega arith) (omega arith) refl e,
-      text-held g 107 2 (bytes "00") (span 2 2 outcomeHolds (oneOf (bytes "01"))) (omega arith) (omega arith) refl e,
+      text-held g 107 2 (bytes "00") (span 1 1 (outcomeHolds h) zeroDigit) (omega arith) (omega arith) refl e,
+      text-held g 107 2 (bytes "00") (span 2 2 (outcomeHolds h) (oneOf (bytes "01"))) (omega arith) (omega arith) refl e,
     )
     go (suc n) e = (
-      text-held g 107 2 (bytes "01") (span 1 1 outcomeHolds zeroDigit) (omega arith) (omega arith) refl e,
-      text-held g 107 2 (bytes "01") (span 2 2 outcomeHolds (oneOf (bytes "01"))) (omega arith) (omega arith) refl e,
+      text-held g 107 2 (bytes "01") (span 1 1 (outcomeHolds h) zeroDigit) (omega arith) (omega arith) refl e,
+      text-held g 107 2 (bytes "01") (span 2 2 (outcomeHolds h) (oneOf (bytes "01"))) (omega arith) (omega arith) refl e,
     )
 
 module _ (h : List ℕ) (form : headerHolds h ≡ true) (g : List ℕ) where
@@ -122,21 +123,21 @@ module _ (h : List ℕ) (form : headerHolds h ≡ true) (g : List ℕ) where
       (more (text-held g 76 6 (bytes "120001") (span 3 5 versionForm zeroDigit) (omega arith) (omega arith) refl)
       (more (text-held g 76 6 (bytes "120001") (span 6 6 versionForm (oneOf (bytes "1"))) (omega arith) (omega arith) refl)
       (more (λ e. e)
-      (more (λ e. outcome-held g e .0)
-      (more (λ e. outcome-held g e .1)
+      (more (λ e. outcome-held h g e .0)
+      (more (λ e. outcome-held h g e .1)
       (more (same-held (oneOf lineEnd) 1 (field 110 110 g) lineEnd refl) none)))))))))))))))
 
   -- the clauses of the header, of those by which an HGC is read
-  head-says : saysHold h g ≡ true → (headForm g ≡ true) × (namesHold h g ≡ true) × (receptionReal g ≡ true) × (outcomeHolds g ≡ true)
+  head-says : saysHold h g ≡ true → (headForm g ≡ true) × (namesHold h g ≡ true) × (receptionReal g ≡ true) × (outcomeHolds h g ≡ true)
   unfolding saysHold formHolds joined
-  head-says e = go (joined-each (formHolds g) (namesHold h g ∷ receptionReal g ∷ outcomeHolds g ∷ each reasonHolds (answersOf g) ∷ []) e)
+  head-says e = go (joined-each (formHolds h g) (namesHold h g ∷ receptionReal g ∷ outcomeHolds h g ∷ each (reasonHolds (widthOf h)) (answersOf h g) ∷ []) e)
     where
-      in-form : Each (λ b. b ≡ true) (lengthForm g ∷ headForm g ∷ each answerForm (answersOf g) ∷ footerHolds g ∷ []) → headForm g ≡ true
+      in-form : Each (λ b. b ≡ true) (lengthForm h g ∷ headForm g ∷ each (answerForm (widthOf h)) (answersOf h g) ∷ footerHolds g ∷ []) → headForm g ≡ true
       in-form (more l (more t bs)) = t
 
-      go : Each (λ b. b ≡ true) (formHolds g ∷ namesHold h g ∷ receptionReal g ∷ outcomeHolds g ∷ each reasonHolds (answersOf g) ∷ [])
-          → (headForm g ≡ true) × (namesHold h g ≡ true) × (receptionReal g ≡ true) × (outcomeHolds g ≡ true)
-      go (more f (more n (more r (more o bs)))) = (in-form (joined-each (lengthForm g) (headForm g ∷ each answerForm (answersOf g) ∷ footerHolds g ∷ []) f), n, r, o)
+      go : Each (λ b. b ≡ true) (formHolds h g ∷ namesHold h g ∷ receptionReal g ∷ outcomeHolds h g ∷ each (reasonHolds (widthOf h)) (answersOf h g) ∷ [])
+          → (headForm g ≡ true) × (namesHold h g ≡ true) × (receptionReal g ≡ true) × (outcomeHolds h g ≡ true)
+      go (more f (more n (more r (more o bs)))) = (in-form (joined-each (lengthForm h g) (headForm g ∷ each (answerForm (widthOf h)) (answersOf h g) ∷ footerHolds g ∷ []) f), n, r, o)
 
   -- and they are those of the spans
   head-rules : saysHold h g ≡ true → Each (λ r. r .rule g ≡ true) (headSpans h)
@@ -147,7 +148,7 @@ module _ (h : List ℕ) (form : headerHolds h ≡ true) (g : List ℕ) where
       (and-split (receiverIs h g) (listIs h g) (s .1)) (s .2) (s .3)
     where
       go : Each (λ b. b ≡ true) (typeForm g ∷ senderForm g ∷ takenForm g ∷ rejectedForm g ∷ versionForm g ∷ fillerForm g ∷ endForm g ∷ [])
-          → (receiverIs h g ≡ true) × (listIs h g ≡ true) → receptionReal g ≡ true → outcomeHolds g ≡ true → Each (λ r. r .rule g ≡ true) (headSpans h)
+          → (receiverIs h g ≡ true) × (listIs h g ≡ true) → receptionReal g ≡ true → outcomeHolds h g ≡ true → Each (λ r. r .rule g ≡ true) (headSpans h)
       go (more t (more s (more n (more m (more v (more f (more d none))))))) (r, l) c o =
           more t (more s (more s (more r (more l (more l (more l (more l (more l (more l (more c (more n (more m
           (more v (more v (more v (more v (more f (more o (more o (more d none))))))))))))))))))))
