@@ -3,10 +3,7 @@ use mathlib.Core.Path.{_≡_}
 use mathlib.Core.Bool.{Bool}
 use mathlib.Core.List.{List}
 use Prim.Native.Nat.{ℕ}
-use Rattle.frames.specs.Frames.{footerForm, footerHolds, framesHold}
-
-abbrev pub IsFooter : List ℕ → Bool → Type 0
-IsFooter f r = r ≡ footerForm f
+use Rattle.frames.specs.Frames.{footerHolds, framesHold}
 
 abbrev pub HasFooter : List ℕ → Bool → Type 0
 HasFooter h r = r ≡ footerHolds h

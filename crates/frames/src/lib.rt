@@ -8,8 +8,8 @@ ghost use Rattle.theory.specs.Parts.{chop};
 ghost use Rattle.theory.specs.Walk.{each};
 ghost use Rattle.fields.specs.Field.{plain};
 ghost use Rattle.hgv.specs.Layout.{footer};
-ghost use Rattle.frames.specs.Frames.{framed};
-ghost use Rattle.frames.specs.Promises.{IsFooter, HasFooter, HasFrames};
+ghost use Rattle.frames.specs.Frames.{footerForm, framed};
+ghost use Rattle.frames.specs.Promises.{HasFooter, HasFrames};
 
 // The columns of the footer.
 const FOOTER_TYPE: usize = 1;
@@ -33,8 +33,8 @@ fn footer<'a>(h: &'a [u8]) -> &'a [u8]
     &h[start..]
 }
 
-pub fn is_footer(f: &[u8]) -> bool
-    ensures { λ r. ⌜ IsFooter (now (f .entry)) r ⌝ }
+fn is_footer(f: &[u8]) -> bool
+    ensures { λ r. ⌜ r ≡ footerForm (now (f .entry)) ⌝ }
 {
     (f.len() == sizes::FOOTER)
         & texts::has_text(f, FOOTER_TYPE, FOOTER_TYPE, b"2")

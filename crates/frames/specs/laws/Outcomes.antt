@@ -4,10 +4,7 @@ use mathlib.Core.Bool.{Bool}
 use mathlib.Core.List.{List}
 use Prim.Native.Nat.{ℕ}
 use Rattle.theory.specs.laws.Outcome.{one-outcome}
-use Rattle.frames.specs.Promises.{IsFooter, HasFooter, HasFrames}
-
-pub is-footer-one : (f : List ℕ) (r s : Bool) → IsFooter f r → IsFooter f s → r ≡ s
-is-footer-one f r s = one-outcome
+use Rattle.frames.specs.Promises.{HasFooter, HasFrames}
 
 pub has-footer-one : (h : List ℕ) (r s : Bool) → HasFooter h r → HasFooter h s → r ≡ s
 has-footer-one h r s = one-outcome
