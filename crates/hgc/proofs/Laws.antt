@@ -23,7 +23,7 @@ use Rattle.numbers.specs.laws.Number.{length-decimal}
 use Rattle.columns.specs.Columns.{text}
 use Rattle.hgv.specs.Layout.{widthOf, linesIn, lengthHolds, body, linesOf}
 use Rattle.hgv.specs.laws.Layout.{width-has, lines-room, each-line, length-least}
-use Rattle.sizes.specs.Sizes.{lineMost, linesMost, hgcHeaderLength}
+use Rattle.sizes.specs.Sizes.{headerLength, lineMost, linesMost, hgcHeaderLength}
 use Rattle.header.specs.Header.{sender, listSequence}
 use Rattle.hgc.specs.Confirmation.{answerLength, confirmationLength, zeros, outcome, names, counts, head, answer, answers, foot, confirmation}
 use Rattle.hgc.specs.laws.Confirmation.{said, Holding, length-zeros, length-outcome, length-names, length-counts, length-text, length-answer, length-foot, answers-none, answers-most, answers-more, length-answers}
@@ -42,7 +42,7 @@ outcome-some zero n = absurd (n refl)
 outcome-some (suc k) n = refl
 
 -- s₁ to s₅ are the block after each field
-pub names-written : (reception h s₀ s₁ s₂ s₃ s₄ s₅ f g : List ℕ) → 46 ≤ length s₀ → length reception ≡ 14 → 128 ≤ length h → f ≡ sender h → g ≡ listSequence h
+pub names-written : (reception h s₀ s₁ s₂ s₃ s₄ s₅ f g : List ℕ) → 46 ≤ length s₀ → length reception ≡ 14 → headerLength ≤ length h → f ≡ sender h → g ≡ listSequence h
     → s₁ ≡ putField 1 (bytes "0") s₀ → s₂ ≡ putField 2 (bytes "000002") s₁ → s₃ ≡ putField 8 f s₂ → s₄ ≡ putField 14 g s₃ → s₅ ≡ putField 33 reception s₄
     → s₅ ≡ putField 1 (names reception h) s₀
 unfolding names

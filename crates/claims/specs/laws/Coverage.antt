@@ -12,6 +12,7 @@ use Rattle.theory.specs.Every.{all}
 use Rattle.fields.specs.laws.Listed.{listed-run}
 use Rattle.fields.specs.laws.Spans.{Span, span, oneOf, cover, admitted, Held, Fixes, covered-at}
 use Rattle.sequences.specs.laws.Coverage.{sequenceSpans}
+use Rattle.sizes.specs.Sizes.{headerLength}
 use Rattle.header.specs.Header.{version, headerHolds}
 use Rattle.header.specs.laws.Coverage.{front, back, front-fixed, back-fixed, header-covered}
 use Rattle.claims.specs.Claims.{versionHolds}
@@ -19,7 +20,7 @@ use Rattle.claims.specs.Claims.{versionHolds}
 unfoldable pub spans : List Span
 spans = front ++ span 95 100 versionHolds (oneOf (bytes "012")) ∷ back
 
-pub spans-cover : cover 1 128 spans ≡ true
+pub spans-cover : cover 1 headerLength spans ≡ true
 unfolding cover spans front back sequenceSpans
 spans-cover = refl
 
@@ -40,5 +41,5 @@ module _ (h : List ℕ) where
     whole-covered = each-append (header-covered h form .0) (more (version-held known) (header-covered h form .1))
 
     -- and the byte at each is one that the table admits there
-    pub header-at : (p : ℕ) → 1 ≤ p → p ≤ 128 → admitted spans p (getD h (p - 1) 0) ≡ true
-    header-at p a b = covered-at h spans 1 128 p (omega arith) spans-cover whole-covered a b
+    pub header-at : (p : ℕ) → 1 ≤ p → p ≤ headerLength → admitted spans p (getD h (p - 1) 0) ≡ true
+    header-at p a b = covered-at h spans 1 headerLength p (omega arith) spans-cover whole-covered a b

@@ -18,7 +18,7 @@ use Rattle.numbers.specs.Number.{decimal}
 use Rattle.numbers.specs.laws.Number.{length-decimal}
 use Rattle.columns.specs.Columns.{text}
 use Rattle.hgv.specs.Layout.{widthOf, linesIn, lengthHolds, linesOf}
-use Rattle.sizes.specs.Sizes.{footerLength, hgcHeaderLength}
+use Rattle.sizes.specs.Sizes.{headerLength, footerLength, hgcHeaderLength}
 use Rattle.hgv.specs.laws.Layout.{width-has, length-lines, each-line, length-least}
 use Rattle.header.specs.Header.{sender, listSequence}
 use Rattle.hgc.specs.Confirmation.{answerLength, confirmationLength, zeros, outcome, names, counts, head, answer, answers, foot, confirmation}
@@ -49,7 +49,7 @@ decimal-zeros (suc n) = ap (λ (s : List ℕ). s ++ 48 ∷ []) (decimal-zeros n)
 
 -- ---- header and footer
 
-pub length-names : (reception h : List ℕ) → length reception ≡ 14 → 128 ≤ length h → length (names reception h) ≡ 46
+pub length-names : (reception h : List ℕ) → length reception ≡ 14 → headerLength ≤ length h → length (names reception h) ≡ 46
 unfolding names
 length-names reception h d l =
     let s : length (sender h) ≡ 6 = field-length 2 7 h (omega arith) (omega arith) in
@@ -60,7 +60,7 @@ pub length-counts : (taken rejected : ℕ) → length (counts taken rejected) �
 unfolding counts
 length-counts taken rejected = simp length-append (omega (arith, length-decimal 15 taken, length-decimal 15 rejected, length-zeros 25, length-outcome rejected))
 
-pub length-head : (reception h : List ℕ) (taken rejected : ℕ) → length reception ≡ 14 → 128 ≤ length h → length (head reception h taken rejected) ≡ hgcHeaderLength
+pub length-head : (reception h : List ℕ) (taken rejected : ℕ) → length reception ≡ 14 → headerLength ≤ length h → length (head reception h taken rejected) ≡ hgcHeaderLength
 unfolding head
 length-head reception h taken rejected d l = length-append (names reception h) (counts taken rejected) ∙ rw (length-names reception h d l, length-counts taken rejected)
 

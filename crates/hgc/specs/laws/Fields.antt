@@ -17,13 +17,14 @@ use Rattle.numbers.specs.Number.{decimal}
 use Rattle.numbers.specs.laws.Number.{length-decimal}
 use Rattle.columns.specs.Columns.{text}
 use Rattle.frames.specs.Frames.{footerForm}
+use Rattle.sizes.specs.Sizes.{headerLength}
 use Rattle.header.specs.Header.{sender, listSequence}
 use Rattle.hgc.specs.Confirmation.{zeros, outcome, names, counts, head, answer, answers, foot}
 use Rattle.hgc.specs.laws.Confirmation.{Holding, length-zeros, length-outcome, length-names, length-text}
 
 -- ---- the header
 
-module _ (reception h : List ℕ) (taken rejected : ℕ) (dated : length reception ≡ 14) (long : 128 ≤ length h) where
+module _ (reception h : List ℕ) (taken rejected : ℕ) (dated : length reception ≡ 14) (long : headerLength ≤ length h) where
   size-sender : length (sender h) ≡ 6
   size-sender = field-length 2 7 h (omega arith) (omega arith)
 

@@ -29,7 +29,7 @@ use Rattle.numbers.specs.laws.Number.{decimal-digits}
 use Rattle.lines.specs.Rules.{recordHolds}
 use Rattle.slots.specs.Search.{ofActor}
 use Rattle.hgv.specs.Layout.{widthOf, linesIn, lengthHolds, linesOf, footer}
-use Rattle.sizes.specs.Sizes.{footerLength, hgcHeaderLength}
+use Rattle.sizes.specs.Sizes.{headerLength, footerLength, hgcHeaderLength}
 use Rattle.frames.specs.Frames.{footerHolds}
 use Rattle.hgv.specs.laws.Layout.{width-has, length-lines, each-line, length-least}
 use Rattle.header.specs.Header.{sender, listSequence}
@@ -112,7 +112,7 @@ module _ (reception h vs : List ℕ) (dated : length reception ≡ 14) (sized : 
   wide : 3 ≤ w
   wide = width-has h 3 (omega arith)
 
-  long : 128 ≤ length h
+  long : headerLength ≤ length h
   long = omega (arith, length-least h sized)
 
   size : length g ≡ confirmationLength w (tally bad vs)
