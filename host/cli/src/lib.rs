@@ -1,8 +1,9 @@
 //! The command `graftspindle`: `command` is the command line, `files` how a register and its HGC are kept on disk, `ait` the
-//! accepted issuer table.
+//! accepted issuer table, `digest` the hash by which files are known again.
 
 #![forbid(unsafe_code)]
 
 pub mod ait;
 pub mod command;
+pub mod digest;
 pub mod files;

@@ -6,6 +6,8 @@ mod answers;
 mod common;
 #[path = "command/demo.rs"]
 mod demo;
+#[path = "command/digest.rs"]
+mod digest;
 #[path = "command/faults.rs"]
 mod faults;
 #[path = "command/hooked.rs"]
