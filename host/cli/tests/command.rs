@@ -16,6 +16,8 @@ mod hooked;
 mod issuers;
 #[path = "command/killed.rs"]
 mod killed;
+#[path = "command/left.rs"]
+mod left;
 #[path = "command/lookups.rs"]
 mod lookups;
 #[path = "command/model.rs"]

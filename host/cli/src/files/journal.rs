@@ -24,6 +24,10 @@ pub fn replace(disk: &dyn Disk, register: &Place, bytes: &[u8], hgc: Option<(&Pl
 }
 
 fn prepare(disk: &dyn Disk, register: &Place, bytes: &[u8], hgc: Option<(&Place, &[u8])>) -> io::Result<()> {
+    if let Some((place, _)) = hgc {
+        // A name that cannot be is refused here: once noted it would stand in the way of every later start.
+        disk.exists(&place.pending_for(register))?;
+    }
     disk.write(&register.pending(), bytes, register.path())?;
     disk.sync_folder(register.folder())?;
     if let Some((place, text)) = hgc {
@@ -62,9 +66,18 @@ fn undo(disk: &dyn Disk, register: &Place) -> io::Result<()> {
     remove(disk, &register.pending())
 }
 
+/// Where the name cannot be, its folder being none or gone, nothing is there.
+fn is_there(disk: &dyn Disk, path: &Path) -> io::Result<bool> {
+    use io::ErrorKind::{InvalidFilename, NotADirectory, NotFound};
+    match disk.exists(path) {
+        Err(fault) if matches!(fault.kind(), InvalidFilename | NotADirectory | NotFound) => Ok(false),
+        answer => answer,
+    }
+}
+
 fn remove(disk: &dyn Disk, path: &Path) -> io::Result<()> {
     let folder = folder_of(path);
-    if disk.exists(path)? {
+    if is_there(disk, path)? {
         disk.remove(path)?;
         return disk.sync_folder(folder);
     }

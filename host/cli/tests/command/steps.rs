@@ -10,7 +10,7 @@ use std::io;
 
 /// What happens at the step.
 #[derive(Clone, Copy, PartialEq)]
-enum Fate {
+pub enum Fate {
     /// The process ends: neither this step nor any later one is done, a file being written is there in part.
     Stop,
     /// The disk is full for this one step.
@@ -18,7 +18,7 @@ enum Fate {
 }
 
 /// A disk on which so many steps go well.
-fn faulty(steps: usize, fate: Fate) -> impl Disk {
+pub fn faulty(steps: usize, fate: Fate) -> impl Disk {
     let left = Cell::new(steps);
     Hooked(move || {
         if left.get() > 0 {
@@ -32,15 +32,26 @@ fn faulty(steps: usize, fate: Fate) -> impl Disk {
     })
 }
 
-fn run(disk: &dyn Disk, folder: &Folder, line: &str) -> Result<String, String> {
+pub fn run(disk: &dyn Disk, folder: &Folder, line: &str) -> Result<String, String> {
     let given: Vec<OsString> = words(folder, line).into_iter().map(OsString::from).collect();
     command::run(disk, &given).map_err(|refusal| refusal.line())
 }
 
 /// The command stopped or failing at each step; `after` looks at the folder. How many steps there are.
-fn at_each_step(fate: Fate, line: &str, after: impl Fn(&Folder, Result<String, String>)) -> usize {
-    for step in 0..50 {
+pub fn at_each_step(fate: Fate, line: &str, after: impl Fn(&Folder, Result<String, String>)) -> usize {
+    at_each_step_of(fate, line, |_| (), after)
+}
+
+/// The same in a folder that has more.
+pub fn at_each_step_of(
+    fate: Fate,
+    line: &str,
+    prepare: impl Fn(&Folder),
+    after: impl Fn(&Folder, Result<String, String>),
+) -> usize {
+    for step in 0..60 {
         let (folder, disk) = (ready(), faulty(step, fate));
+        prepare(&folder);
         let answer = run(&disk, &folder, line);
         let done = answer.is_ok();
         after(&folder, answer);
