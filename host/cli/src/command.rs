@@ -6,11 +6,14 @@ mod demo;
 mod help;
 mod import;
 mod issuers;
+pub mod json;
 mod lookup;
+pub mod options;
 mod read_back;
 mod refusal;
 mod register;
 mod texts;
+mod told;
 mod update;
 
 use std::ffi::OsString;
@@ -18,29 +21,39 @@ use std::path::Path;
 
 use crate::files::{self, Disk, Place};
 use arguments::Arguments;
+use graftspindle::sizes::REGISTER_MOST;
 use graftspindle::{Mode, Register};
+use options::{Opt, Use};
 pub use refusal::Refusal;
+pub use told::{warn, Told};
 
 /// What a command has to say, or why it refuses.
-pub type Answer = Result<String, Refusal>;
+pub type Answer = Result<Told, Refusal>;
 
 pub struct Command {
     pub name: &'static str,
-    /// Each takes a value.
-    pub options: &'static [&'static str],
-    pub usage: &'static str,
+    pub options: &'static [Use],
+    /// The words behind the options; one in brackets may be missing.
+    pub words: &'static [&'static str],
     pub help: &'static str,
     pub run: fn(&dyn Disk, &Arguments) -> Answer,
 }
 
-const COMMANDS: [&Command; 9] = [
+impl Command {
+    pub fn takes(&self) -> impl Iterator<Item = &'static Opt> {
+        self.options.iter().map(|option| option.option())
+    }
+}
+
+static COMMANDS: [&Command; 10] = [
     &import::IMPORT,
     &lookup::PAN,
     &lookup::PLATE,
     &read_back::READ_BACK,
     &update::UPDATE,
-    &register::NEW,
-    &register::SHOW,
+    &register::new::NEW,
+    &register::show::SHOW,
+    &register::recover::RECOVER,
     &issuers::FROM_AIT,
     &demo::DEMO,
 ];
@@ -67,7 +80,7 @@ pub fn run(disk: &dyn Disk, given: &[OsString]) -> Answer {
 }
 
 fn mode(given: &Arguments) -> Result<Mode, Refusal> {
-    match given.text("mode")? {
+    match given.text(&options::MODE)? {
         word if word == "incremental" => Ok(Mode::Incremental),
         word if word == "full" => Ok(Mode::Full),
         other => Err(Refusal::Fault(format!("--mode is incremental or full, not {other}"))),
@@ -78,7 +91,7 @@ fn mode(given: &Arguments) -> Result<Mode, Refusal> {
 fn look(disk: &dyn Disk, path: &Path) -> Result<Register, Refusal> {
     let place = Place::of_known(path)?;
     if let Err(fault) = files::tidy(disk, &place) {
-        eprintln!("graftspindle: what a stopped import left is still there: {fault}");
+        warn(&format!("what a stopped import left is still there: {fault}"));
     }
-    Ok(Register::from_bytes(disk.read(place.path())?))
+    Ok(Register::from_bytes(disk.read(place.path(), REGISTER_MOST + 1)?))
 }

@@ -1,18 +1,24 @@
 //! A register and its HGC on disk: they stand or fall together, since a provider applies what the HGC says.
 //!
 //! Both are written beside their places and synced first. The rename of the register is the moment at which the import
-//! counts. What a stop in between leaves is undone before that moment and finished after it, by the next start.
+//! counts. What a stop in between leaves is undone before that moment and finished after it, by the next start; the HGC
+//! is kept beside the register until it stands where it belongs.
 
 pub mod disk;
+pub mod fault;
 pub mod journal;
+pub mod left;
 pub mod lock;
 pub mod note;
 pub mod place;
+pub mod private;
 
 use std::io;
 use std::path::Path;
 
 pub use disk::{Disk, Real};
+pub use fault::Fault;
+use graftspindle::sizes::REGISTER_MOST;
 use lock::Lock;
 pub use place::Place;
 
@@ -25,38 +31,50 @@ pub struct Held<'a> {
 
 impl<'a> Held<'a> {
     /// Waits as long as another holds it.
-    pub fn take(disk: &'a dyn Disk, place: Place) -> io::Result<Held<'a>> {
+    pub fn take(disk: &'a dyn Disk, place: Place) -> Result<Held<'a>, Fault> {
         let lock = lock::take(&place)?;
-        journal::recover(disk, &place)?;
+        left::recover(disk, &place)?;
         Ok(Held { disk, place, _lock: lock })
     }
 
     pub fn read(&self) -> io::Result<Vec<u8>> {
-        self.disk.read(self.place.path())
+        self.disk.read(self.place.path(), REGISTER_MOST + 1)
     }
 
     pub fn is_there(&self) -> io::Result<bool> {
         self.disk.exists(self.place.path())
     }
 
-    pub fn replace(&self, register: &[u8], hgc: Option<(&Place, &[u8])>) -> io::Result<()> {
+    pub fn replace(&self, register: &[u8], hgc: Option<journal::Hgc>) -> Result<(), Fault> {
         journal::replace(self.disk, &self.place, register, hgc)
     }
 }
 
 /// Finishes or undoes what a stop left, for one who only reads. The register is whole at any moment, so that he needs
 /// no lock: where another holds it, that other is at work and nothing was left.
-pub fn tidy(disk: &dyn Disk, place: &Place) -> io::Result<()> {
-    if !journal::is_left(disk, place)? {
+pub fn tidy(disk: &dyn Disk, place: &Place) -> Result<(), Fault> {
+    if !left::is_left(disk, place)? {
         return Ok(());
     }
     match lock::try_take(place)? {
-        Some(_lock) => journal::recover(disk, place),
+        Some(_lock) => left::recover(disk, place).map(|_| ()),
         None => Ok(()),
     }
 }
 
+/// The same by hand, with the HGC to another place if that is wanted.
+pub fn recover(disk: &dyn Disk, place: &Place, out: Option<&Place>) -> Result<left::Done, Fault> {
+    let _lock = lock::take(place)?;
+    left::recover_by_hand(disk, place, out)
+}
+
+/// Removes what a stop left.
+pub fn discard(disk: &dyn Disk, place: &Place) -> Result<left::Done, Fault> {
+    let _lock = lock::take(place)?;
+    Ok(left::discard(disk, place)?)
+}
+
 /// Whole or not at all, with nothing that stands or falls with it.
-pub fn write_alone(disk: &dyn Disk, path: &Path, bytes: &[u8]) -> io::Result<()> {
+pub fn write_alone(disk: &dyn Disk, path: &Path, bytes: &[u8]) -> Result<(), Fault> {
     journal::replace(disk, &Place::of_file(path)?, bytes, None)
 }

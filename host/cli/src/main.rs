@@ -14,7 +14,7 @@ fn say(text: &str) -> Result<(), Refusal> {
 
 fn main() -> ExitCode {
     let given: Vec<OsString> = std::env::args_os().skip(1).collect();
-    match command::run(&Real, &given).and_then(|text| say(&text)) {
+    match command::run(&Real, &given).and_then(|told| say(&told.text)) {
         Ok(()) => ExitCode::SUCCESS,
         Err(refusal) => {
             eprintln!("graftspindle: {}", refusal.line());

@@ -22,6 +22,8 @@ mod left;
 mod lookups;
 #[path = "command/model.rs"]
 mod model;
+#[path = "command/planted.rs"]
+mod planted;
 #[path = "command/power.rs"]
 mod power;
 #[path = "command/provider.rs"]

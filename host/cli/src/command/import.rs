@@ -3,14 +3,17 @@
 use std::path::Path;
 
 use super::arguments::Arguments;
-use super::{clock, mode, Answer, Command, Refusal};
+use super::options::Use::{Needed, Optional};
+use super::options::{HGC, ISSUERS, MODE, RECEIVED, REGISTER};
+use super::{clock, mode, Answer, Command, Refusal, Told};
 use crate::files::{Disk, Held, Place};
+use graftspindle::sizes::{HGV_MOST, ROW, ROWS_MOST};
 use graftspindle::{Import, Register};
 
-pub const IMPORT: Command = Command {
+pub static IMPORT: Command = Command {
     name: "import",
-    options: &["register", "issuers", "mode", "received", "hgc"],
-    usage: "import --register R --issuers ROWS --mode incremental|full [--received YYYYMMDDhhmmss] --hgc OUT HGV",
+    options: &[Needed(&REGISTER), Needed(&ISSUERS), Needed(&MODE), Optional(&RECEIVED), Needed(&HGC)],
+    words: &["HGV"],
     help: "\
 Imports the whitelist HGV into the register R and writes the confirmation for its sender to OUT. The moment of reception is
 UTC, and the present one unless it is given. R and OUT stand or fall together: killed at any moment, after the next command
@@ -21,8 +24,8 @@ on R both are new or both are as they were. A file that is at OUT is replaced. A
 
 /// The HGC must not fall on what it is made from.
 fn place_of_hgc(given: &Arguments, hgv: &Path) -> Result<Place, Refusal> {
-    let hgc = Place::of_file(given.path("hgc")?)?;
-    for other in [given.path("register")?, given.path("issuers")?, hgv] {
+    let hgc = Place::of_file(given.path(&HGC)?)?;
+    for other in [given.path(&REGISTER)?, given.path(&ISSUERS)?, hgv] {
         if other.canonicalize().is_ok_and(|other| other == hgc.path()) {
             return Err(Refusal::Fault(format!("--hgc would replace {}", other.display())));
         }
@@ -33,16 +36,18 @@ fn place_of_hgc(given: &Arguments, hgv: &Path) -> Result<Place, Refusal> {
 fn run(disk: &dyn Disk, given: &Arguments) -> Answer {
     let [hgv] = given.rest()?;
     let mode = mode(given)?;
-    let place = Place::of_known(given.path("register")?)?;
+    let place = Place::of_known(given.path(&REGISTER)?)?;
     let hgc_place = place_of_hgc(given, Path::new(hgv))?;
-    let (rows, hgv) = (disk.read(given.path("issuers")?)?, disk.read(Path::new(hgv))?);
+    let (rows, hgv) =
+        (disk.read(given.path(&ISSUERS)?, ROWS_MOST * ROW + 1)?, disk.read(Path::new(hgv), HGV_MOST + 1)?);
     let held = Held::take(disk, place)?;
     let mut register = Register::from_bytes(held.read()?);
     // Only now: imports that waited for each other are received in the order in which they are imported.
-    let reception = given.text_if_given("received").map_or_else(clock::now, String::into_bytes);
+    let reception = given.text_if_given(&RECEIVED).map_or_else(clock::now, String::into_bytes);
     let import = Import { mode, reception: &reception, rows: &rows, hgv: &hgv };
     let (counts, hgc) = register.import(&import)?;
     held.replace(register.bytes(), Some((&hgc_place, &hgc)))?;
     let (taken, rejected) = (counts.taken, counts.rejected);
-    Ok(format!("taken {taken}, rejected {rejected}; the HGC is {}\n", hgc_place.path().display()))
+    let text = format!("taken {taken}, rejected {rejected}; the HGC is {}\n", hgc_place.path().display());
+    Ok(Told::new(text).with("taken", taken).with("rejected", rejected))
 }

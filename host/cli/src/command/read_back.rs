@@ -3,15 +3,15 @@
 use std::path::Path;
 
 use super::arguments::Arguments;
-use super::{texts, Answer, Command};
+use super::{texts, Answer, Command, Told};
 use crate::files::Disk;
-use graftspindle::sizes::{HEADER, LINE};
+use graftspindle::sizes::{HEADER, HGC_MOST, HGV_MOST, LINE};
 use graftspindle::Verdict;
 
-pub const READ_BACK: Command = Command {
+pub static READ_BACK: Command = Command {
     name: "read-back",
     options: &[],
-    usage: "read-back HGV HGC",
+    words: &["HGV", "HGC"],
     help: "Says of each line of the HGV, by its number, PAN and plate, what its confirmation HGC answers.\n",
     run,
 };
@@ -28,9 +28,10 @@ fn shown(number: usize, line: &[u8], verdict: Verdict) -> String {
 
 fn run(disk: &dyn Disk, given: &Arguments) -> Answer {
     let [hgv, hgc] = given.rest()?;
-    let (hgv, hgc) = (disk.read(Path::new(hgv))?, disk.read(Path::new(hgc))?);
+    let (hgv, hgc) = (disk.read(Path::new(hgv), HGV_MOST + 1)?, disk.read(Path::new(hgc), HGC_MOST + 1)?);
     let (counts, verdicts) = graftspindle::read_back(&hgv, &hgc)?;
     let told = lines(&hgv).zip(&verdicts).enumerate();
     let told: String = told.map(|(i, (line, &verdict))| shown(i + 1, line, verdict)).collect();
-    Ok(format!("{told}taken {}, rejected {}\n", counts.taken, counts.rejected))
+    let text = format!("{told}taken {}, rejected {}\n", counts.taken, counts.rejected);
+    Ok(Told::new(text).with("taken", counts.taken).with("rejected", counts.rejected))
 }

@@ -1,15 +1,20 @@
-//! Why a command did not do what it was asked for.
+//! Why a command did not do what it was asked for, or not all of it.
 
 use std::io;
 
+use crate::files::Fault;
 use graftspindle::Number;
 
 #[derive(Debug)]
 pub enum Refusal {
     /// A number of the definition.
     Number(Number),
-    /// Of the command line or of the file system.
+    /// Of the command line or of the file system: nothing was changed.
     Fault(String),
+    /// What was asked for counts, but something after it could not be done.
+    Counts(String),
+    /// What an earlier stop left stands in the way: nothing was begun.
+    Left(String),
 }
 
 impl Refusal {
@@ -17,15 +22,22 @@ impl Refusal {
         match self {
             Refusal::Number(number) => u8::try_from(number.number()).unwrap_or(u8::MAX),
             Refusal::Fault(_) => 1,
+            Refusal::Counts(_) => 2,
+            Refusal::Left(_) => 3,
+        }
+    }
+
+    /// What it means, without the number.
+    pub fn words(&self) -> String {
+        match self {
+            Refusal::Number(number) => number.words().to_string(),
+            Refusal::Fault(words) | Refusal::Counts(words) | Refusal::Left(words) => words.clone(),
         }
     }
 
     /// One line: the number, and what it means.
     pub fn line(&self) -> String {
-        match self {
-            Refusal::Number(number) => number.to_string(),
-            Refusal::Fault(fault) => format!("1: {fault}"),
-        }
+        format!("{}: {}", self.status(), self.words())
     }
 }
 
@@ -38,5 +50,15 @@ impl From<Number> for Refusal {
 impl From<io::Error> for Refusal {
     fn from(fault: io::Error) -> Refusal {
         Refusal::Fault(fault.to_string())
+    }
+}
+
+impl From<Fault> for Refusal {
+    fn from(fault: Fault) -> Refusal {
+        match fault {
+            Fault::Disk(fault) => fault.into(),
+            Fault::Counts(words) => Refusal::Counts(words),
+            Fault::Left(words) => Refusal::Left(format!("not begun: {words}")),
+        }
     }
 }

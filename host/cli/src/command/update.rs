@@ -3,14 +3,17 @@
 use std::path::Path;
 
 use super::arguments::Arguments;
-use super::{mode, Answer, Command};
+use super::options::Use::Needed;
+use super::options::{COPY, MODE};
+use super::{mode, Answer, Command, Told};
 use crate::files::{Disk, Held, Place};
+use graftspindle::sizes::{HGC_MOST, HGV_MOST};
 use graftspindle::Register;
 
-pub const UPDATE: Command = Command {
+pub static UPDATE: Command = Command {
     name: "update",
-    options: &["copy", "mode"],
-    usage: "update --copy C --mode incremental|full HGV HGC",
+    options: &[Needed(&COPY), Needed(&MODE)],
+    words: &["HGV", "HGC"],
     help: "\
 Applies the lines of the HGV that its confirmation HGC says were taken to the provider's copy C. The mode is the one that
 the list was imported in. Killed at any moment, C is as before or as after.
@@ -21,10 +24,11 @@ the list was imported in. Killed at any moment, C is as before or as after.
 fn run(disk: &dyn Disk, given: &Arguments) -> Answer {
     let [hgv, hgc] = given.rest()?;
     let mode = mode(given)?;
-    let (hgv, hgc) = (disk.read(Path::new(hgv))?, disk.read(Path::new(hgc))?);
-    let held = Held::take(disk, Place::of_known(given.path("copy")?)?)?;
+    let (hgv, hgc) = (disk.read(Path::new(hgv), HGV_MOST + 1)?, disk.read(Path::new(hgc), HGC_MOST + 1)?);
+    let held = Held::take(disk, Place::of_known(given.path(&COPY)?)?)?;
     let mut copy = Register::from_bytes(held.read()?);
     let counts = copy.update(mode, &hgv, &hgc)?;
     held.replace(copy.bytes(), None)?;
-    Ok(format!("taken {}, rejected {}\n", counts.taken, counts.rejected))
+    let text = format!("taken {}, rejected {}\n", counts.taken, counts.rejected);
+    Ok(Told::new(text).with("taken", counts.taken).with("rejected", counts.rejected))
 }

@@ -1,69 +1,82 @@
 //! A register replaced together with its HGC.
 //!
-//! The order, each step on the disk before the next: the register on its way, the note, the HGC on its way; the rename of
-//! the register; the rename of the HGC; the note removed. So where there is a note, the register on its way is still
-//! there exactly as long as the import does not count yet.
+//! The order, each step on the disk before the next: the register on its way; the note, with the HGC in it; the HGC on its
+//! way, which shows that its place takes it; the rename of the register, from which on the import counts; the rename of the
+//! HGC; the note removed. What a stop in between leaves is the next start's (`left`).
 
 use std::io;
 use std::path::Path;
 
-use super::disk::Disk;
+use super::disk::{Disk, Like};
+use super::fault::Fault;
+use super::left;
 use super::note::Note;
 use super::place::Place;
+use crate::digest;
+use graftspindle::sizes::REGISTER_MOST;
+
+/// An HGC and where it belongs.
+pub type Hgc<'a> = (&'a Place, &'a [u8]);
 
 /// Makes both new, or leaves both as they were.
-pub fn replace(disk: &dyn Disk, register: &Place, bytes: &[u8], hgc: Option<(&Place, &[u8])>) -> io::Result<()> {
+pub fn replace(disk: &dyn Disk, register: &Place, bytes: &[u8], hgc: Option<Hgc>) -> Result<(), Fault> {
     let prepared = prepare(disk, register, bytes, hgc);
     if let Err(fault) = prepared.and_then(|()| disk.rename(&register.pending(), register.path())) {
         // What cannot be undone now is undone by the next start.
-        let _ = recover(disk, register);
-        return Err(fault);
+        let _ = left::recover(disk, register);
+        return Err(fault.into());
     }
-    let after = "the register counts as written, and the next command on it finishes what is left";
-    finish(disk, register).map_err(|fault| io::Error::new(fault.kind(), format!("{after}: {fault}")))
+    finish(disk, register, hgc.map(|(place, _)| place)).map_err(|fault| counts(register, hgc, &fault))
 }
 
-fn prepare(disk: &dyn Disk, register: &Place, bytes: &[u8], hgc: Option<(&Place, &[u8])>) -> io::Result<()> {
+fn prepare(disk: &dyn Disk, register: &Place, bytes: &[u8], hgc: Option<Hgc>) -> io::Result<()> {
     if let Some((place, _)) = hgc {
         // A name that cannot be is refused here: once noted it would stand in the way of every later start.
         disk.exists(&place.pending_for(register))?;
     }
-    disk.write(&register.pending(), bytes, register.path())?;
+    disk.write(&register.pending(), bytes, Like::Whole(register.path()))?;
     disk.sync_folder(register.folder())?;
     if let Some((place, text)) = hgc {
-        let note = Note { pending: place.pending_for(register), hgc: place.path().to_path_buf() };
-        disk.write(&register.note(), &note.bytes(), register.path())?;
+        disk.write(&register.note(), &note(disk, register, bytes, (place, text))?, Like::ButOwner(register.path()))?;
         disk.sync_folder(register.folder())?;
-        disk.write(&note.pending, text, place.path())?;
-        disk.sync_folder(place.folder())?;
+        disk.write(&place.pending_for(register), text, Like::Whole(place.path()))?;
     }
     Ok(())
 }
 
-pub fn is_left(disk: &dyn Disk, register: &Place) -> io::Result<bool> {
-    Ok(disk.exists(&register.pending())? || disk.exists(&register.note())?)
+fn note(disk: &dyn Disk, register: &Place, bytes: &[u8], (place, text): Hgc) -> io::Result<Vec<u8>> {
+    let note = Note {
+        out: place.path().to_path_buf(),
+        folder: disk.number_of(place.folder())?,
+        before: digest::of(&disk.read(register.path(), REGISTER_MOST + 1)?),
+        after: digest::of(bytes),
+        hgc: text.to_vec(),
+    };
+    Ok(note.bytes())
 }
 
-/// Undoes what does not count, and finishes what does.
-pub fn recover(disk: &dyn Disk, register: &Place) -> io::Result<()> {
-    if disk.exists(&register.pending())? {
-        undo(disk, register)
-    } else if disk.exists(&register.note())? {
-        finish(disk, register)
-    } else {
-        Ok(())
-    }
-}
-
-/// The register on its way goes last: without it a note says that the import counts.
-fn undo(disk: &dyn Disk, register: &Place) -> io::Result<()> {
-    if disk.exists(&register.note())? {
-        if let Some(note) = Note::read(&disk.read(&register.note())?) {
-            remove(disk, &note.pending)?;
-        }
+/// The HGC moves only once the register's rename is on the disk.
+fn finish(disk: &dyn Disk, register: &Place, hgc: Option<&Place>) -> io::Result<()> {
+    disk.sync_folder(register.folder())?;
+    if let Some(place) = hgc {
+        disk.rename(&place.pending_for(register), place.path())?;
+        disk.sync_folder(place.folder())?;
         remove(disk, &register.note())?;
     }
-    remove(disk, &register.pending())
+    Ok(())
+}
+
+fn counts(register: &Place, hgc: Option<Hgc>, fault: &io::Error) -> Fault {
+    let name = register.path().display();
+    Fault::Counts(match hgc {
+        None => format!("{name} is new and counts as written, but {fault}"),
+        Some((place, _)) => format!(
+            "the register {name} is new and the list counts as imported, but {fault}; the HGC for {} is kept beside the \
+             register: the next command on it tries again, and graftspindle register recover --hgc OTHER {name} writes it \
+             elsewhere",
+            place.path().display()
+        ),
+    })
 }
 
 /// Where the name cannot be, its folder being none or gone, nothing is there.
@@ -75,8 +88,9 @@ fn is_there(disk: &dyn Disk, path: &Path) -> io::Result<bool> {
     }
 }
 
-fn remove(disk: &dyn Disk, path: &Path) -> io::Result<()> {
-    let folder = folder_of(path);
+/// Removes what has the name, and sees that it stays so.
+pub fn remove(disk: &dyn Disk, path: &Path) -> io::Result<()> {
+    let folder = path.parent().unwrap_or(Path::new("/"));
     if is_there(disk, path)? {
         disk.remove(path)?;
         return disk.sync_folder(folder);
@@ -84,31 +98,4 @@ fn remove(disk: &dyn Disk, path: &Path) -> io::Result<()> {
     // Removed before, perhaps by one who was stopped here; or never made, in a folder that takes no file and may not sync.
     let _ = disk.sync_folder(folder);
     Ok(())
-}
-
-fn folder_of(path: &Path) -> &Path {
-    path.parent().unwrap_or(Path::new("/"))
-}
-
-/// A folder that is gone has nothing to sync.
-fn sync_if_there(disk: &dyn Disk, folder: &Path) -> io::Result<()> {
-    match disk.sync_folder(folder) {
-        Err(gone) if gone.kind() == io::ErrorKind::NotFound => Ok(()),
-        done => done,
-    }
-}
-
-/// The HGC moves only once the register's rename is on the disk.
-fn finish(disk: &dyn Disk, register: &Place) -> io::Result<()> {
-    disk.sync_folder(register.folder())?;
-    if !disk.exists(&register.note())? {
-        return Ok(());
-    }
-    let damaged = || io::Error::new(io::ErrorKind::InvalidData, format!("{} is damaged", register.note().display()));
-    let note = Note::read(&disk.read(&register.note())?).ok_or_else(damaged)?;
-    if disk.exists(&note.pending)? {
-        disk.rename(&note.pending, &note.hgc)?;
-    }
-    sync_if_there(disk, folder_of(&note.hgc))?;
-    remove(disk, &register.note())
 }

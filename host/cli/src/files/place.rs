@@ -5,7 +5,7 @@ use std::io;
 use std::path::{Path, PathBuf};
 
 use super::disk::told;
-use super::note::sum;
+use crate::digest;
 
 const ENDING: &str = ".graftspindle-";
 
@@ -75,7 +75,8 @@ impl Place {
 
     /// The HGC on its way, under a name that no other register's import uses.
     pub fn pending_for(&self, register: &Place) -> PathBuf {
-        self.beside(&format!("{:016x}", sum(register.0.as_os_str().as_encoded_bytes())))
+        let digest = digest::of(register.0.as_os_str().as_encoded_bytes()).to_string();
+        self.beside(&digest[..16])
     }
 
     pub fn note(&self) -> PathBuf {

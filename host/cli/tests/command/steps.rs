@@ -34,7 +34,7 @@ pub fn faulty(steps: usize, fate: Fate) -> impl Disk {
 
 pub fn run(disk: &dyn Disk, folder: &Folder, line: &str) -> Result<String, String> {
     let given: Vec<OsString> = words(folder, line).into_iter().map(OsString::from).collect();
-    command::run(disk, &given).map_err(|refusal| refusal.line())
+    command::run(disk, &given).map(|told| told.text).map_err(|refusal| refusal.line())
 }
 
 /// The command stopped or failing at each step; `after` looks at the folder. How many steps there are.
@@ -103,7 +103,7 @@ fn full_disk() {
     let before = ready().all();
     at_each_step(Fate::Full, IMPORT, |folder, answer| match answer {
         Ok(_) => assert!(both(folder) == new),
-        Err(fault) if fault.contains("counts as written") => {
+        Err(fault) if fault.starts_with("2: ") => {
             assert_eq!(folder.read("register"), new.0);
             assert_eq!(graftspindle(folder, STARTS[0]).status, 0);
             assert!(both(folder) == new);
