@@ -7,6 +7,7 @@ mod help;
 mod import;
 mod issuers;
 pub mod json;
+mod kinds;
 mod lookup;
 pub mod options;
 mod read_back;
@@ -20,12 +21,13 @@ use std::ffi::OsString;
 use std::path::Path;
 
 use crate::files::{self, Disk, Place};
+pub use crate::say::warn;
 use arguments::Arguments;
 use graftspindle::sizes::REGISTER_MOST;
 use graftspindle::{Mode, Register};
 use options::{Opt, Use};
 pub use refusal::Refusal;
-pub use told::{warn, Told};
+pub use told::Told;
 
 /// What a command has to say, or why it refuses.
 pub type Answer = Result<Told, Refusal>;

@@ -6,6 +6,7 @@
 
 pub mod disk;
 pub mod fault;
+mod holder;
 pub mod journal;
 pub mod left;
 pub mod lock;
@@ -14,13 +15,16 @@ pub mod place;
 pub mod private;
 
 use std::io;
-use std::path::Path;
+use std::time::Duration;
 
 pub use disk::{Disk, Real};
 pub use fault::Fault;
 use graftspindle::sizes::REGISTER_MOST;
 use lock::Lock;
 pub use place::Place;
+
+/// How long another may be waited for; none is as long as it takes.
+pub type Wait = Option<Duration>;
 
 /// A register's place, locked, with nothing left over from an earlier stop.
 pub struct Held<'a> {
@@ -30,9 +34,9 @@ pub struct Held<'a> {
 }
 
 impl<'a> Held<'a> {
-    /// Waits as long as another holds it.
-    pub fn take(disk: &'a dyn Disk, place: Place) -> Result<Held<'a>, Fault> {
-        let lock = lock::take(&place)?;
+    /// Waits while another holds it, so long at the most where a time is given.
+    pub fn take(disk: &'a dyn Disk, place: Place, wait: Wait) -> Result<Held<'a>, Fault> {
+        let lock = lock::take(&place, wait)?;
         left::recover(disk, &place)?;
         Ok(Held { disk, place, _lock: lock })
     }
@@ -63,18 +67,18 @@ pub fn tidy(disk: &dyn Disk, place: &Place) -> Result<(), Fault> {
 }
 
 /// The same by hand, with the HGC to another place if that is wanted.
-pub fn recover(disk: &dyn Disk, place: &Place, out: Option<&Place>) -> Result<left::Done, Fault> {
-    let _lock = lock::take(place)?;
+pub fn recover(disk: &dyn Disk, place: &Place, out: Option<&Place>, wait: Wait) -> Result<left::Done, Fault> {
+    let _lock = lock::take(place, wait)?;
     left::recover_by_hand(disk, place, out)
 }
 
 /// Removes what a stop left.
-pub fn discard(disk: &dyn Disk, place: &Place) -> Result<left::Done, Fault> {
-    let _lock = lock::take(place)?;
+pub fn discard(disk: &dyn Disk, place: &Place, wait: Wait) -> Result<left::Done, Fault> {
+    let _lock = lock::take(place, wait)?;
     Ok(left::discard(disk, place)?)
 }
 
 /// Whole or not at all, with nothing that stands or falls with it.
-pub fn write_alone(disk: &dyn Disk, path: &Path, bytes: &[u8]) -> Result<(), Fault> {
-    journal::replace(disk, &Place::of_file(path)?, bytes, None)
+pub fn write_alone(disk: &dyn Disk, place: Place, bytes: &[u8], wait: Wait) -> Result<(), Fault> {
+    Held::take(disk, place, wait)?.replace(bytes, None)
 }

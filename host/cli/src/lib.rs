@@ -1,5 +1,6 @@
 //! The command `graftspindle`: `command` is the command line, `files` how a register and its HGC are kept on disk, `ait` the
-//! accepted issuer table, `digest` the hash by which files are known again.
+//! accepted issuer table, `digest` the hash by which files are known
+//! again.
 
 #![forbid(unsafe_code)]
 
@@ -7,3 +8,4 @@ pub mod ait;
 pub mod command;
 pub mod digest;
 pub mod files;
+mod say;

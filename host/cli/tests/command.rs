@@ -18,6 +18,8 @@ mod issuers;
 mod killed;
 #[path = "command/left.rs"]
 mod left;
+#[path = "command/limits.rs"]
+mod limits;
 #[path = "command/lookups.rs"]
 mod lookups;
 #[path = "command/model.rs"]
@@ -28,7 +30,13 @@ mod planted;
 mod power;
 #[path = "command/provider.rs"]
 mod provider;
+#[path = "command/replaced.rs"]
+mod replaced;
 #[path = "command/steps.rs"]
 mod steps;
+#[path = "command/streams.rs"]
+mod streams;
 #[path = "command/together.rs"]
 mod together;
+#[path = "command/users.rs"]
+mod users;

@@ -3,9 +3,10 @@
 use std::ffi::{OsStr, OsString};
 use std::os::unix::ffi::OsStrExt;
 use std::path::Path;
+use std::time::Duration;
 
 use super::help::usage;
-use super::options::Opt;
+use super::options::{Opt, WAIT};
 use super::{Command, Refusal};
 
 pub struct Arguments {
@@ -87,6 +88,13 @@ impl Arguments {
 
     pub fn text_if_given(&self, option: &Opt) -> Option<String> {
         self.value(option).map(|value| value.to_string_lossy().into_owned())
+    }
+
+    /// How long another may be waited for; none is as long as it takes.
+    pub fn wait(&self) -> Result<Option<Duration>, Refusal> {
+        let seconds = |text: String| text.parse().map(Duration::from_secs).map_err(|_| text);
+        let wait = self.text_if_given(&WAIT).map(seconds).transpose();
+        wait.map_err(|text| self.fault(&format!("--wait {text} is not a number of seconds")))
     }
 
     /// What is no option: exactly so many words.

@@ -3,19 +3,20 @@
 use std::path::Path;
 
 use super::arguments::Arguments;
-use super::options::Use::Needed;
-use super::options::ISSUERS;
+use super::kinds::{may_replace, Kind};
+use super::options::Use::{Needed, Optional};
+use super::options::{FORCE, ISSUERS, WAIT};
 use super::{Answer, Command, Refusal, Told};
 use crate::ait;
-use crate::files::{self, Disk};
+use crate::files::{self, Disk, Place};
 
 pub static FROM_AIT: Command = Command {
     name: "issuers from-ait",
-    options: &[Needed(&ISSUERS)],
+    options: &[Needed(&ISSUERS), Optional(&WAIT), Optional(&FORCE)],
     words: &["AIT"],
     help: "\
 Writes the issuer rows of the accepted issuer table AIT (AP-3.5) to ROWS, for import. Lines that give the same row give it
-once. A file that is at ROWS is replaced.
+once. Issuer rows that are at ROWS are replaced; a file of another kind is not.
 ",
     run,
 };
@@ -25,6 +26,8 @@ fn run(disk: &dyn Disk, given: &Arguments) -> Answer {
     let rows = ait::rows(&disk.read(Path::new(path), ait::MOST + 1)?);
     let rows = rows.map_err(|fault| Refusal::Fault(format!("{}: {fault}", Path::new(path).display())))?;
     graftspindle::rows_in_form(&rows.concat())?;
-    files::write_alone(disk, given.path(&ISSUERS)?, &rows.concat())?;
+    let place = Place::of_file(given.path(&ISSUERS)?)?;
+    may_replace(disk, given, &place, Kind::Rows)?;
+    files::write_alone(disk, place, &rows.concat(), given.wait()?)?;
     Ok(Told::new(format!("{} rows\n", rows.len())).with("rows", rows.len()))
 }

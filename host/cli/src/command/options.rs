@@ -68,4 +68,11 @@ pub static HGC: Opt = Opt::with("hgc", "OUT", Kind::File, "Where the confirmatio
 pub static AT: Opt =
     Opt::with("at", MOMENT, Kind::Text, "The time that is asked for, UTC; the present one unless given.");
 pub static SLOTS: Opt = Opt::with("slots", "N", Kind::Text, "How many slots there are.");
+pub static WAIT: Opt = Opt::with(
+    "wait",
+    "SECONDS",
+    Kind::Text,
+    "How long another import is waited for; as long as it takes unless given.",
+);
+pub static FORCE: Opt = Opt::flag("force", "Replaces what is there, of whatever kind it is.");
 pub static DISCARD: Opt = Opt::flag("discard", "Removes what was left, with an HGC that is still owed.");

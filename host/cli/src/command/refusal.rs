@@ -15,6 +15,8 @@ pub enum Refusal {
     Counts(String),
     /// What an earlier stop left stands in the way: nothing was begun.
     Left(String),
+    /// Another holds the register for longer than was to be waited: nothing was begun.
+    Busy(String),
 }
 
 impl Refusal {
@@ -24,6 +26,7 @@ impl Refusal {
             Refusal::Fault(_) => 1,
             Refusal::Counts(_) => 2,
             Refusal::Left(_) => 3,
+            Refusal::Busy(_) => 4,
         }
     }
 
@@ -31,7 +34,9 @@ impl Refusal {
     pub fn words(&self) -> String {
         match self {
             Refusal::Number(number) => number.words().to_string(),
-            Refusal::Fault(words) | Refusal::Counts(words) | Refusal::Left(words) => words.clone(),
+            Refusal::Fault(words) | Refusal::Counts(words) | Refusal::Left(words) | Refusal::Busy(words) => {
+                words.clone()
+            }
         }
     }
 
@@ -59,6 +64,7 @@ impl From<Fault> for Refusal {
             Fault::Disk(fault) => fault.into(),
             Fault::Counts(words) => Refusal::Counts(words),
             Fault::Left(words) => Refusal::Left(format!("not begun: {words}")),
+            Fault::Busy(words) => Refusal::Busy(words),
         }
     }
 }

@@ -18,9 +18,3 @@ impl Told {
         self
     }
 }
-
-/// Says it on standard error. Where nobody takes it, nothing else changes.
-pub fn warn(line: &str) {
-    use std::io::Write;
-    let _ = writeln!(std::io::stderr(), "graftspindle: {line}");
-}

@@ -3,8 +3,8 @@
 use std::path::Path;
 
 use super::arguments::Arguments;
-use super::options::Use::Needed;
-use super::options::{COPY, MODE};
+use super::options::Use::{Needed, Optional};
+use super::options::{COPY, MODE, WAIT};
 use super::{mode, Answer, Command, Told};
 use crate::files::{Disk, Held, Place};
 use graftspindle::sizes::{HGC_MOST, HGV_MOST};
@@ -12,7 +12,7 @@ use graftspindle::Register;
 
 pub static UPDATE: Command = Command {
     name: "update",
-    options: &[Needed(&COPY), Needed(&MODE)],
+    options: &[Needed(&COPY), Needed(&MODE), Optional(&WAIT)],
     words: &["HGV", "HGC"],
     help: "\
 Applies the lines of the HGV that its confirmation HGC says were taken to the provider's copy C. The mode is the one that
@@ -25,7 +25,7 @@ fn run(disk: &dyn Disk, given: &Arguments) -> Answer {
     let [hgv, hgc] = given.rest()?;
     let mode = mode(given)?;
     let (hgv, hgc) = (disk.read(Path::new(hgv), HGV_MOST + 1)?, disk.read(Path::new(hgc), HGC_MOST + 1)?);
-    let held = Held::take(disk, Place::of_known(given.path(&COPY)?)?)?;
+    let held = Held::take(disk, Place::of_known(given.path(&COPY)?)?, given.wait()?)?;
     let mut copy = Register::from_bytes(held.read()?);
     let counts = copy.update(mode, &hgv, &hgc)?;
     held.replace(copy.bytes(), None)?;

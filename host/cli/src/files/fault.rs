@@ -10,6 +10,8 @@ pub enum Fault {
     Counts(String),
     /// What an earlier stop left can be neither finished nor undone.
     Left(String),
+    /// Another holds the lock.
+    Busy(String),
 }
 
 impl From<io::Error> for Fault {
@@ -22,7 +24,7 @@ impl std::fmt::Display for Fault {
     fn fmt(&self, f: &mut std::fmt::Formatter) -> std::fmt::Result {
         match self {
             Fault::Disk(fault) => fault.fmt(f),
-            Fault::Counts(words) | Fault::Left(words) => f.write_str(words),
+            Fault::Counts(words) | Fault::Left(words) | Fault::Busy(words) => f.write_str(words),
         }
     }
 }

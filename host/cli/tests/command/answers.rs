@@ -63,7 +63,19 @@ fn stops_of_the_rest() {
     assert_refused(&folder, IMPORT, 33);
     folder.write("register", b"1");
     assert_refused(&folder, IMPORT, 23);
-    assert_refused(&folder, "register new --slots 8193 @fresh", 23);
+}
+
+/// There is no register yet that could be out of order.
+#[test]
+fn more_slots_than_any_register_has() {
+    let folder = ready();
+    let before = folder.all();
+    for slots in ["8193", "65536", "99999999999"] {
+        let done = graftspindle(&folder, &format!("register new --slots {slots} @fresh"));
+        assert_eq!(done.status, 1);
+        assert!(done.fault.contains("0 to 8192") && !done.fault.contains("in order"), "{}", done.fault);
+        assert!(folder.all() == before);
+    }
 }
 
 /// The command gives a mode of the two, and room for both blocks: 21, 34 and 53 only the functions can answer.

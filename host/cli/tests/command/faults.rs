@@ -62,7 +62,11 @@ fn folder_that_takes_no_file() {
     assert_fault(&folder, &IMPORT.replace("@hgc", "/proc/hgc"), &["cannot write /proc/hgc"]);
     assert_fault(&folder, &IMPORT.replace("@register", "/proc/version"), &["cannot make the lock /proc/version"]);
     assert_fault(&folder, "register new --slots 1 /proc/fresh", &["cannot make the lock /proc/fresh"]);
-    assert_fault(&folder, &format!("issuers from-ait --issuers /proc/rows {AIT}"), &["cannot write /proc/rows"]);
+    assert_fault(
+        &folder,
+        &format!("issuers from-ait --issuers /proc/rows {AIT}"),
+        &["cannot make the lock /proc/rows"],
+    );
 }
 
 /// Where permissions count, for another than root.

@@ -3,15 +3,16 @@
 use std::path::Path;
 
 use crate::command::arguments::Arguments;
+use crate::command::kinds::{may_replace, Kind};
 use crate::command::options::Use::Optional;
-use crate::command::options::{DISCARD, HGC};
+use crate::command::options::{DISCARD, FORCE, HGC, WAIT};
 use crate::command::{Answer, Command, Refusal, Told};
 use crate::files::left::Done;
 use crate::files::{self, Disk, Fault, Place};
 
 pub static RECOVER: Command = Command {
     name: "register recover",
-    options: &[Optional(&HGC), Optional(&DISCARD)],
+    options: &[Optional(&HGC), Optional(&DISCARD), Optional(&WAIT), Optional(&FORCE)],
     words: &["R"],
     help: "\
 Undoes what a stopped import of the register R left where it does not count, and finishes it where it does: its HGC is
@@ -30,13 +31,25 @@ fn words(done: &Done, place: &Place) -> String {
     }
 }
 
+fn out(disk: &dyn Disk, given: &Arguments, register: &Place) -> Result<Option<Place>, Refusal> {
+    let Some(path) = given.path_if_given(&HGC) else {
+        return Ok(None);
+    };
+    let out = Place::of_file(path)?;
+    may_replace(disk, given, &out, Kind::Hgc)?;
+    match &out == register {
+        true => Err(Refusal::Fault("--hgc would replace the register".to_string())),
+        false => Ok(Some(out)),
+    }
+}
+
 fn run(disk: &dyn Disk, given: &Arguments) -> Answer {
     let [path] = given.rest()?;
     let place = Place::of_known(Path::new(path))?;
-    let out = given.path_if_given(&HGC).map(Place::of_file).transpose()?;
+    let out = out(disk, given, &place)?;
     let done = match given.is_given(&DISCARD) {
-        true => files::discard(disk, &place),
-        false => files::recover(disk, &place, out.as_ref()),
+        true => files::discard(disk, &place, given.wait()?),
+        false => files::recover(disk, &place, out.as_ref(), given.wait()?),
     };
     let done = done.map_err(|fault| match fault {
         Fault::Left(words) => Refusal::Left(words),
