@@ -3,8 +3,10 @@
 pub mod arguments;
 pub mod clock;
 mod demo;
+mod explain;
 mod help;
 mod import;
+mod input;
 mod issuers;
 pub mod json;
 mod kinds;
@@ -15,6 +17,7 @@ mod refusal;
 mod register;
 mod texts;
 mod told;
+mod totals;
 mod update;
 
 use std::ffi::OsString;
@@ -27,7 +30,7 @@ use graftspindle::sizes::REGISTER_MOST;
 use graftspindle::{Mode, Register};
 use options::{Opt, Use};
 pub use refusal::Refusal;
-pub use told::Told;
+pub use told::{output, Told};
 
 /// What a command has to say, or why it refuses.
 pub type Answer = Result<Told, Refusal>;
@@ -43,11 +46,11 @@ pub struct Command {
 
 impl Command {
     pub fn takes(&self) -> impl Iterator<Item = &'static Opt> {
-        self.options.iter().map(|option| option.option())
+        self.options.iter().map(|option| option.option()).chain([&options::JSON])
     }
 }
 
-static COMMANDS: [&Command; 10] = [
+static COMMANDS: [&Command; 13] = [
     &import::IMPORT,
     &lookup::PAN,
     &lookup::PLATE,
@@ -55,6 +58,9 @@ static COMMANDS: [&Command; 10] = [
     &update::UPDATE,
     &register::new::NEW,
     &register::show::SHOW,
+    &register::list::LIST,
+    &register::check::CHECK,
+    &register::grow::GROW,
     &register::recover::RECOVER,
     &issuers::FROM_AIT,
     &demo::DEMO,
@@ -75,10 +81,16 @@ pub fn run(disk: &dyn Disk, given: &[OsString]) -> Answer {
     let Some((command, rest)) = named(given) else {
         return help::without_command(given);
     };
-    if rest.iter().any(|word| word == "--help") {
+    let options = rest.iter().take_while(|word| *word != "--");
+    if options.clone().any(help::is_asked) {
         return Ok(help::of(command));
     }
     (command.run)(disk, &Arguments::parse(command, rest)?)
+}
+
+/// Whether `--json` is among the options.
+pub fn wants_json(given: &[OsString]) -> bool {
+    given.iter().take_while(|word| *word != "--").any(|word| word == "--json")
 }
 
 fn mode(given: &Arguments) -> Result<Mode, Refusal> {
@@ -96,4 +108,9 @@ fn look(disk: &dyn Disk, path: &Path) -> Result<Register, Refusal> {
         warn(&format!("what a stopped import left is still there: {fault}"));
     }
     Ok(Register::from_bytes(disk.read(place.path(), REGISTER_MOST + 1)?))
+}
+
+/// The number with these words beside its sentence.
+fn beside(words: impl std::fmt::Display) -> impl FnOnce(graftspindle::Number) -> Refusal {
+    move |number| Refusal::Number(number, words.to_string())
 }

@@ -19,7 +19,9 @@ fn say(text: &str) -> Result<(), Refusal> {
 
 fn main() -> ExitCode {
     let given: Vec<OsString> = std::env::args_os().skip(1).collect();
-    match command::run(&Real, &given).and_then(|told| say(&told.text)) {
+    let answer = command::run(&Real, &given);
+    let said = say(&command::output(&answer, command::wants_json(&given)));
+    match answer.and_then(|_| said) {
         Ok(()) => ExitCode::SUCCESS,
         Err(refusal) => {
             command::warn(&refusal.line());

@@ -24,6 +24,8 @@ mod limits;
 mod lookups;
 #[path = "command/model.rs"]
 mod model;
+#[path = "command/operator.rs"]
+mod operator;
 #[path = "command/planted.rs"]
 mod planted;
 #[path = "command/power.rs"]
@@ -40,3 +42,5 @@ mod streams;
 mod together;
 #[path = "command/users.rs"]
 mod users;
+#[path = "command/words.rs"]
+mod words;

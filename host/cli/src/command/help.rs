@@ -2,13 +2,13 @@
 
 use std::ffi::OsString;
 
-use super::{Answer, Command, Refusal, Told, COMMANDS};
+use super::{named, Answer, Command, Refusal, Told, COMMANDS};
 
 const STATUS: &str = "\
 Exit status: 0, or the definition's number of the stop or refusal, or 1 for a fault of the command line or of the file
 system, 2 where what was asked for counts but something after it could not be done, 3 where nothing was begun since an
-earlier import is unfinished. One line on standard error says the number and what it means. Where the status is not 0,
-nothing was changed unless that line says so.
+earlier import is unfinished, 4 where another holds the register for longer than --wait. One line on standard error says the
+number and what it means. Where the status is not 0, nothing was changed unless that line says so.
 ";
 
 /// The command's words and options, in their order.
@@ -30,18 +30,37 @@ pub fn of(command: &Command) -> Told {
 fn all() -> Told {
     let usages: String = COMMANDS.iter().map(|command| format!("  graftspindle {}\n", usage(command))).collect();
     let head = "The account register of a group of toll roads.";
-    Told::new(format!("{head}\n\n{usages}\nEach has a --help of its own.\n\n{STATUS}"))
+    Told::new(format!("{head}\n\n{usages}\nEach has a --help of its own, and takes --json.\n\n{STATUS}"))
 }
 
-/// Help where it is asked for, else what can be said.
+/// As cargo knows it.
+fn version() -> Told {
+    let version = env!("CARGO_PKG_VERSION");
+    Told::new(format!("graftspindle {version}\n")).with("version", version)
+}
+
+pub fn is_asked(word: &OsString) -> bool {
+    word == "--help" || word == "-h"
+}
+
+/// Help where it is asked for, of all or of one, else what can be said.
 pub fn without_command(given: &[OsString]) -> Answer {
-    if given.iter().any(|word| word == "--help" || word == "help") {
-        return Ok(all());
+    match given {
+        [word, ..] if word == "--version" || word == "-V" => Ok(version()),
+        [word] if word == "help" || is_asked(word) => Ok(all()),
+        [word, rest @ ..] if word == "help" || is_asked(word) => {
+            named(rest).map(|(command, _)| of(command)).ok_or_else(|| unknown(rest))
+        }
+        _ if given.iter().any(is_asked) => Ok(all()),
+        _ => Err(unknown(given)),
     }
+}
+
+fn unknown(given: &[OsString]) -> Refusal {
     let words: Vec<_> = given.iter().map(|word| word.to_string_lossy()).collect();
     let fault = match words.is_empty() {
         true => "a command is missing".to_string(),
         false => format!("there is no command {}", words.join(" ")),
     };
-    Err(Refusal::Fault(format!("{fault}; graftspindle --help lists them")))
+    Refusal::Fault(format!("{fault}; graftspindle --help lists them"))
 }

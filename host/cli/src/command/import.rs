@@ -3,13 +3,15 @@
 use std::path::Path;
 
 use super::arguments::Arguments;
+use super::input::Input;
 use super::kinds::{may_replace, Kind};
 use super::options::Use::{Needed, Optional};
 use super::options::{FORCE, HGC, ISSUERS, MODE, RECEIVED, REGISTER, WAIT};
-use super::{clock, mode, Answer, Command, Refusal, Told};
+use super::totals::Totals;
+use super::{clock, explain, input, mode, texts, Answer, Command, Refusal, Told};
 use crate::files::{Disk, Held, Place};
 use graftspindle::sizes::{HGV_MOST, ROW, ROWS_MOST};
-use graftspindle::{Import, Register};
+use graftspindle::{Import, Number, Register};
 
 pub static IMPORT: Command = Command {
     name: "import",
@@ -26,6 +28,10 @@ while another one of R runs.
 
 /// The HGC must not fall on what it is made from.
 fn place_of_hgc(disk: &dyn Disk, given: &Arguments, hgv: &Path) -> Result<Place, Refusal> {
+    if input::is_standard(given.path(&HGC)?.as_os_str()) {
+        let words = "--hgc - cannot be: register and HGC stand or fall together, and standard output can do neither";
+        return Err(Refusal::Fault(words.to_string()));
+    }
     let hgc = Place::of_file(given.path(&HGC)?)?;
     for other in [given.path(&REGISTER)?, given.path(&ISSUERS)?, hgv] {
         if other.canonicalize().is_ok_and(|other| other == hgc.path()) {
@@ -36,21 +42,46 @@ fn place_of_hgc(disk: &dyn Disk, given: &Arguments, hgv: &Path) -> Result<Place,
     Ok(hgc)
 }
 
+/// What can be said of a refusal.
+fn explained(number: Number, import: &Import, names: &Names, register: &[u8]) -> Refusal {
+    let (hgv, rows) = (names.hgv, names.rows);
+    match number {
+        Number::Time => Refusal::Number(number, texts::shown(import.reception)),
+        Number::Order => Refusal::Number(number, names.register.to_string()),
+        Number::Rows => Refusal::Number(number, rows.name.clone()),
+        Number::Parties => explain::of_parties(hgv, rows),
+        Number::Slots => explain::of_slots(names.register, register, |largest| largest.import(import).map(|_| ())),
+        other => explain::of_hgv(other, hgv),
+    }
+}
+
+/// What the files are called.
+struct Names<'a> {
+    register: &'a str,
+    rows: &'a Input,
+    hgv: &'a Input,
+}
+
 fn run(disk: &dyn Disk, given: &Arguments) -> Answer {
     let [hgv] = given.rest()?;
     let mode = mode(given)?;
     let place = Place::of_known(given.path(&REGISTER)?)?;
     let hgc_place = place_of_hgc(disk, given, Path::new(hgv))?;
-    let (rows, hgv) =
-        (disk.read(given.path(&ISSUERS)?, ROWS_MOST * ROW + 1)?, disk.read(Path::new(hgv), HGV_MOST + 1)?);
-    let held = Held::take(disk, place, given.wait()?)?;
-    let mut register = Register::from_bytes(held.read()?);
+    let rows = given.path(&ISSUERS)?.as_os_str();
+    input::at_most_one(&[rows, hgv])?;
+    let (rows, hgv) = (input::read(disk, rows, ROWS_MOST * ROW)?, input::read(disk, hgv, HGV_MOST)?);
+    let held = Held::take(disk, place.clone(), given.wait()?)?;
+    let before = held.read()?;
+    let mut register = Register::from_bytes(before.clone());
     // Only now: imports that waited for each other are received in the order in which they are imported.
     let reception = given.text_if_given(&RECEIVED).map_or_else(clock::now, String::into_bytes);
-    let import = Import { mode, reception: &reception, rows: &rows, hgv: &hgv };
-    let (counts, hgc) = register.import(&import)?;
+    let import = Import { mode, reception: &reception, rows: &rows.bytes, hgv: &hgv.bytes };
+    let names = Names { register: &place.path().display().to_string(), rows: &rows, hgv: &hgv };
+    let (counts, hgc) = register.import(&import).map_err(|number| explained(number, &import, &names, &before))?;
     held.replace(register.bytes(), Some((&hgc_place, &hgc)))?;
     let (taken, rejected) = (counts.taken, counts.rejected);
-    let text = format!("taken {taken}, rejected {rejected}; the HGC is {}\n", hgc_place.path().display());
-    Ok(Told::new(text).with("taken", taken).with("rejected", rejected))
+    let (totals, out) = (Totals::of(&hgv.bytes, &hgc), hgc_place.path().display());
+    let text = format!("taken {taken}, rejected {rejected}; the HGC is {out}\n{}", totals.text());
+    let told = Told::new(text).with("taken", taken).with("rejected", rejected).with("reasons", totals.json());
+    Ok(told.with("hgc", out.to_string()))
 }

@@ -1,11 +1,13 @@
 //! `lookup pan` and `lookup plate`.
 
+use std::path::Path;
+
 use super::arguments::Arguments;
 use super::options::Use::{Needed, Optional};
 use super::options::{AT, REGISTER};
-use super::{clock, look, texts, Answer, Command, Told};
+use super::{clock, look, texts, Answer, Command, Refusal, Told};
 use crate::files::Disk;
-use graftspindle::Register;
+use graftspindle::{Number, Register};
 
 pub static PAN: Command = Command {
     name: "lookup pan",
@@ -37,19 +39,32 @@ fn shown(register: &Register, slot: &[u8]) -> Told {
     told.with("plate", plate).with("nationality", nationality).with("end", end).with("text", text)
 }
 
+/// Which of the things asked for a number is about.
+fn about(number: Number, path: &Path, time: &[u8], key: &str) -> Refusal {
+    let name = path.display();
+    let words = match number {
+        Number::Order => name.to_string(),
+        Number::Time => texts::shown(time),
+        Number::Key => key.to_string(),
+        _ => format!("{key} in {name}"),
+    };
+    Refusal::Number(number, words)
+}
+
 fn by_pan(disk: &dyn Disk, given: &Arguments) -> Answer {
-    let [pan] = given.rest()?;
-    let register = look(disk, given.path(&REGISTER)?)?;
-    let slot = register.by_pan(&texts::field(&pan.to_string_lossy(), 19)?)?;
+    let ([pan], path) = (given.rest()?, given.path(&REGISTER)?);
+    let (register, pan) = (look(disk, path)?, pan.to_string_lossy());
+    let slot = register.by_pan(&texts::field(&pan, 19)?);
+    let slot = slot.map_err(|number| about(number, path, b"", &format!("PAN {pan}")))?;
     Ok(shown(&register, slot))
 }
 
 fn by_plate(disk: &dyn Disk, given: &Arguments) -> Answer {
-    let [plate, nationality] = given.rest()?;
-    let register = look(disk, given.path(&REGISTER)?)?;
+    let ([plate, nationality], path) = (given.rest()?, given.path(&REGISTER)?);
+    let register = look(disk, path)?;
     let time = given.text_if_given(&AT).map_or_else(clock::now, String::into_bytes);
-    let plate = texts::field(&plate.to_string_lossy(), 10)?;
-    let nationality = texts::field(&nationality.to_string_lossy(), 3)?;
-    let slot = register.by_plate(&plate, &nationality, &time)?;
+    let (plate, nationality) = (plate.to_string_lossy(), nationality.to_string_lossy());
+    let slot = register.by_plate(&texts::field(&plate, 10)?, &texts::field(&nationality, 3)?, &time);
+    let slot = slot.map_err(|number| about(number, path, &time, &format!("plate {plate} {nationality}")))?;
     Ok(shown(&register, slot))
 }

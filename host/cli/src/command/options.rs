@@ -75,4 +75,6 @@ pub static WAIT: Opt = Opt::with(
     "How long another import is waited for; as long as it takes unless given.",
 );
 pub static FORCE: Opt = Opt::flag("force", "Replaces what is there, of whatever kind it is.");
+pub static JSON: Opt = Opt::flag("json", "Answers by one line of JSON, at a refusal too.");
+pub static REJECTED: Opt = Opt::flag("rejected", "Only the lines that were rejected.");
 pub static DISCARD: Opt = Opt::flag("discard", "Removes what was left, with an HGC that is still owed.");

@@ -7,8 +7,8 @@ use graftspindle::Number;
 
 #[derive(Debug)]
 pub enum Refusal {
-    /// A number of the definition.
-    Number(Number),
+    /// A number of the definition, and what can be said beside its sentence.
+    Number(Number, String),
     /// Of the command line or of the file system: nothing was changed.
     Fault(String),
     /// What was asked for counts, but something after it could not be done.
@@ -22,7 +22,7 @@ pub enum Refusal {
 impl Refusal {
     pub fn status(&self) -> u8 {
         match self {
-            Refusal::Number(number) => u8::try_from(number.number()).unwrap_or(u8::MAX),
+            Refusal::Number(number, _) => u8::try_from(number.number()).unwrap_or(u8::MAX),
             Refusal::Fault(_) => 1,
             Refusal::Counts(_) => 2,
             Refusal::Left(_) => 3,
@@ -33,7 +33,8 @@ impl Refusal {
     /// What it means, without the number.
     pub fn words(&self) -> String {
         match self {
-            Refusal::Number(number) => number.words().to_string(),
+            Refusal::Number(number, beside) if beside.is_empty() => number.words().to_string(),
+            Refusal::Number(number, beside) => format!("{}: {beside}", number.words()),
             Refusal::Fault(words) | Refusal::Counts(words) | Refusal::Left(words) | Refusal::Busy(words) => {
                 words.clone()
             }
@@ -48,7 +49,7 @@ impl Refusal {
 
 impl From<Number> for Refusal {
     fn from(number: Number) -> Refusal {
-        Refusal::Number(number)
+        Refusal::Number(number, String::new())
     }
 }
 

@@ -1,5 +1,8 @@
 //! The commands on a register as a file.
 
+pub mod check;
+pub mod grow;
+pub mod list;
 pub mod new;
 pub mod recover;
 pub mod show;

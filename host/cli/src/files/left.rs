@@ -80,6 +80,18 @@ fn found(disk: &dyn Disk, register: &Place) -> Result<Left, Fault> {
     })
 }
 
+/// What a stop left, in words, if it left something. Nothing is changed.
+pub fn state(disk: &dyn Disk, register: &Place) -> Result<Option<String>, Fault> {
+    Ok(match found(disk, register)? {
+        Left::Nothing => None,
+        Left::ToUndo(_) => Some("an import was stopped before it counts, and the next command undoes it".to_string()),
+        Left::ToFinish(note) => {
+            Some(format!("an import counts, and its HGC for {} is still owed: register recover", note.out.display()))
+        }
+        Left::Foreign(note) => return Err(foreign(register, &note)),
+    })
+}
+
 /// Undoes what does not count, and finishes what does.
 pub fn recover(disk: &dyn Disk, register: &Place) -> Result<Done, Fault> {
     match found(disk, register)? {

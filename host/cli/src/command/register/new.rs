@@ -19,7 +19,7 @@ pub static NEW: Command = Command {
 };
 
 /// Whether there can be so many is asked of the proved functions; the number is only shown.
-fn free(given: &Arguments) -> Result<Register, Refusal> {
+pub fn free(given: &Arguments) -> Result<Register, Refusal> {
     let text = given.text(&SLOTS)?;
     let register = text.parse().ok().and_then(|slots| Register::free(slots).ok());
     register.ok_or_else(|| Refusal::Fault(format!("--slots {text}: a register has 0 to {SLOTS_MOST} slots")))

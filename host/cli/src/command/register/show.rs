@@ -7,7 +7,7 @@ use crate::command::arguments::Arguments;
 use crate::command::json::Json;
 use crate::command::options::Use::Optional;
 use crate::command::options::AT;
-use crate::command::{clock, look, texts, Answer, Command, Told};
+use crate::command::{beside, clock, look, texts, Answer, Command, Told};
 use crate::files::Disk;
 use graftspindle::{Number, Register};
 
@@ -23,7 +23,7 @@ the present one unless it is given; and the free slots.
 };
 
 /// Whether a record is active is asked of the lookup, in a register that holds it alone.
-fn is_active(slot: &[u8], time: &[u8]) -> Result<bool, Number> {
+pub fn is_active(slot: &[u8], time: &[u8]) -> Result<bool, Number> {
     let (plate, nationality) = texts::plate_key(slot);
     match Register::from_bytes(slot.to_vec()).by_plate(plate, nationality, time) {
         Ok(_) => Ok(true),
@@ -34,13 +34,13 @@ fn is_active(slot: &[u8], time: &[u8]) -> Result<bool, Number> {
 
 fn run(disk: &dyn Disk, given: &Arguments) -> Answer {
     let [path] = given.rest()?;
-    let register = look(disk, Path::new(path))?;
-    register.in_order()?;
+    let (register, name) = (look(disk, Path::new(path))?, Path::new(path).display());
+    register.in_order().map_err(beside(name))?;
     let time = given.text_if_given(&AT).map_or_else(clock::now, String::into_bytes);
     let mut actors: BTreeMap<String, (u64, u64)> = BTreeMap::new();
     for slot in register.records() {
         let (active, ended) = actors.entry(texts::actor(slot)).or_default();
-        let counted = if is_active(slot, &time)? { active } else { ended };
+        let counted = if is_active(slot, &time).map_err(beside(texts::shown(&time)))? { active } else { ended };
         *counted += 1;
     }
     let (slots, used) = (register.slots().count(), register.records().count());
