@@ -2,7 +2,9 @@
 
 pub mod arguments;
 pub mod clock;
+mod completions;
 mod demo;
+mod entry;
 mod explain;
 mod help;
 mod import;
@@ -11,6 +13,7 @@ mod issuers;
 pub mod json;
 mod kinds;
 mod lookup;
+mod manual;
 pub mod options;
 mod read_back;
 mod refusal;
@@ -50,7 +53,7 @@ impl Command {
     }
 }
 
-static COMMANDS: [&Command; 13] = [
+static COMMANDS: [&Command; 15] = [
     &import::IMPORT,
     &lookup::PAN,
     &lookup::PLATE,
@@ -64,6 +67,8 @@ static COMMANDS: [&Command; 13] = [
     &register::recover::RECOVER,
     &issuers::FROM_AIT,
     &demo::DEMO,
+    &manual::MANUAL,
+    &completions::COMPLETIONS,
 ];
 
 /// The command whose words stand in front, and what follows them.

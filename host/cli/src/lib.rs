@@ -5,6 +5,7 @@
 #![forbid(unsafe_code)]
 
 pub mod ait;
+pub mod audit;
 pub mod command;
 pub mod digest;
 pub mod files;

@@ -2,6 +2,8 @@
 
 #[path = "command/answers.rs"]
 mod answers;
+#[path = "command/audit.rs"]
+mod audit;
 #[path = "command/common.rs"]
 mod common;
 #[path = "command/demo.rs"]
@@ -26,6 +28,8 @@ mod lookups;
 mod model;
 #[path = "command/operator.rs"]
 mod operator;
+#[path = "command/pages.rs"]
+mod pages;
 #[path = "command/planted.rs"]
 mod planted;
 #[path = "command/power.rs"]

@@ -4,6 +4,15 @@ use std::ffi::OsString;
 
 use super::{named, Answer, Command, Refusal, Told, COMMANDS};
 
+/// The statuses that are no numbers of the definition.
+pub const STATUSES: [(u8, &str); 5] = [
+    (0, "It is done."),
+    (1, "A fault of the command line or of the file system: nothing was changed."),
+    (2, "What was asked for counts, but something after it could not be done: the line says what."),
+    (3, "Nothing was begun, since an earlier import is unfinished: register recover."),
+    (4, "Nothing was begun, since another holds the register for longer than --wait."),
+];
+
 const STATUS: &str = "\
 Exit status: 0, or the definition's number of the stop or refusal, or 1 for a fault of the command line or of the file
 system, 2 where what was asked for counts but something after it could not be done, 3 where nothing was begun since an

@@ -3,25 +3,28 @@
 use std::path::Path;
 
 use super::arguments::Arguments;
+use super::entry::{self, Entry};
 use super::input::Input;
 use super::kinds::{may_replace, Kind};
 use super::options::Use::{Needed, Optional};
-use super::options::{FORCE, HGC, ISSUERS, MODE, RECEIVED, REGISTER, WAIT};
+use super::options::{FORCE, HGC, ISSUERS, JOURNAL, MODE, RECEIVED, REGISTER, WAIT};
 use super::totals::Totals;
 use super::{clock, explain, input, mode, texts, Answer, Command, Refusal, Told};
-use crate::files::{Disk, Held, Place};
+use crate::files::{Disk, Fault, Held, Place};
 use graftspindle::sizes::{HGV_MOST, ROW, ROWS_MOST};
 use graftspindle::{Import, Number, Register};
 
 pub static IMPORT: Command = Command {
     name: "import",
-    options: &[Needed(&REGISTER), Needed(&ISSUERS), Needed(&MODE), Optional(&RECEIVED), Needed(&HGC), Optional(&WAIT), Optional(&FORCE)],
+    options: &[Needed(&REGISTER), Needed(&ISSUERS), Needed(&MODE), Optional(&RECEIVED), Needed(&HGC), Optional(&WAIT), Optional(&JOURNAL),
+        Optional(&FORCE)],
     words: &["HGV"],
     help: "\
 Imports the whitelist HGV into the register R and writes the confirmation for its sender to OUT. The moment of reception is
 UTC, and the present one unless it is given. R and OUT stand or fall together: killed at any moment, after the next command
 on R both are new or both are as they were. An HGC that is at OUT is replaced; a file of another kind is not. An import waits
-while another one of R runs.
+while another one of R runs. HGV or ROWS may be -, standard input. With a journal the import says where the list was imported
+before, or follows another list than the last one of its sender.
 ",
     run,
 };
@@ -63,24 +66,47 @@ struct Names<'a> {
 }
 
 fn run(disk: &dyn Disk, given: &Arguments) -> Answer {
+    entry::kept(given, "import", |entry| import(disk, given, entry))
+}
+
+fn import<'a>(disk: &'a dyn Disk, given: &Arguments, entry: &mut Entry<'a>) -> Answer {
     let [hgv] = given.rest()?;
     let mode = mode(given)?;
+    entry.say("mode", given.text(&MODE)?);
     let place = Place::of_known(given.path(&REGISTER)?)?;
     let hgc_place = place_of_hgc(disk, given, Path::new(hgv))?;
     let rows = given.path(&ISSUERS)?.as_os_str();
     input::at_most_one(&[rows, hgv])?;
     let (rows, hgv) = (input::read(disk, rows, ROWS_MOST * ROW)?, input::read(disk, hgv, HGV_MOST)?);
+    entry.hgv(&hgv.bytes);
     let held = Held::take(disk, place.clone(), given.wait()?)?;
-    let before = held.read()?;
-    let mut register = Register::from_bytes(before.clone());
     // Only now: imports that waited for each other are received in the order in which they are imported.
     let reception = given.text_if_given(&RECEIVED).map_or_else(clock::now, String::into_bytes);
+    entry.say("reception", texts::shown(&reception));
     let import = Import { mode, reception: &reception, rows: &rows.bytes, hgv: &hgv.bytes };
     let names = Names { register: &place.path().display().to_string(), rows: &rows, hgv: &hgv };
-    let (counts, hgc) = register.import(&import).map_err(|number| explained(number, &import, &names, &before))?;
-    held.replace(register.bytes(), Some((&hgc_place, &hgc)))?;
+    let answer = carry_out(&held, &import, &names, &hgc_place, entry);
+    entry.hold(held);
+    answer
+}
+
+fn carry_out(held: &Held, import: &Import, names: &Names, out: &Place, entry: &mut Entry) -> Answer {
+    let before = held.read()?;
+    entry.begin(names.register, &before);
+    let mut register = Register::from_bytes(before.clone());
+    let done = register.import(import);
+    let (counts, hgc) = done.map_err(|number| explained(number, import, names, &before))?;
+    entry.compare()?;
+    let replaced = held.replace(register.bytes(), Some((out, &hgc)));
     let (taken, rejected) = (counts.taken, counts.rejected);
-    let (totals, out) = (Totals::of(&hgv.bytes, &hgc), hgc_place.path().display());
+    if matches!(replaced, Ok(()) | Err(Fault::Counts(_))) {
+        entry.say("taken", taken);
+        entry.say("rejected", rejected);
+        entry.digest("hgc", &hgc);
+        entry.digest("after", register.bytes());
+    }
+    replaced?;
+    let (totals, out) = (Totals::of(&names.hgv.bytes, &hgc), out.path().display());
     let text = format!("taken {taken}, rejected {rejected}; the HGC is {out}\n{}", totals.text());
     let told = Told::new(text).with("taken", taken).with("rejected", rejected).with("reasons", totals.json());
     Ok(told.with("hgc", out.to_string()))

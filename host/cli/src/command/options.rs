@@ -75,6 +75,9 @@ pub static WAIT: Opt = Opt::with(
     "How long another import is waited for; as long as it takes unless given.",
 );
 pub static FORCE: Opt = Opt::flag("force", "Replaces what is there, of whatever kind it is.");
+pub static JOURNAL: Opt =
+    Opt::with("journal", "J", Kind::File, "The journal for the audit, which gets a line of JSON for this command.");
+pub static HELP: Opt = Opt::flag("help", "Says what the command does; -h does too.");
 pub static JSON: Opt = Opt::flag("json", "Answers by one line of JSON, at a refusal too.");
 pub static REJECTED: Opt = Opt::flag("rejected", "Only the lines that were rejected.");
 pub static DISCARD: Opt = Opt::flag("discard", "Removes what was left, with an HGC that is still owed.");

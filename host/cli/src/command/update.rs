@@ -1,16 +1,17 @@
 //! `update`: a provider's copy after an HGV of his and its HGC.
 
 use super::arguments::Arguments;
+use super::entry::{self, Entry};
 use super::options::Use::{Needed, Optional};
-use super::options::{COPY, MODE, WAIT};
+use super::options::{COPY, JOURNAL, MODE, WAIT};
 use super::totals::Totals;
 use super::{explain, input, mode, Answer, Command, Refusal, Told};
-use crate::files::{Disk, Held, Place};
-use graftspindle::{Number, Register};
+use crate::files::{Disk, Fault, Held, Place};
+use graftspindle::{Counts, Number, Register};
 
 pub static UPDATE: Command = Command {
     name: "update",
-    options: &[Needed(&COPY), Needed(&MODE), Optional(&WAIT)],
+    options: &[Needed(&COPY), Needed(&MODE), Optional(&WAIT), Optional(&JOURNAL)],
     words: &["HGV", "HGC"],
     help: "\
 Applies the lines of the HGV that its confirmation HGC says were taken to the provider's copy C. The mode is the one that
@@ -20,22 +21,40 @@ the list was imported in. Killed at any moment, C is as before or as after.
 };
 
 fn run(disk: &dyn Disk, given: &Arguments) -> Answer {
+    entry::kept(given, "update", |entry| update(disk, given, entry))
+}
+
+fn update<'a>(disk: &'a dyn Disk, given: &Arguments, entry: &mut Entry<'a>) -> Answer {
     let [hgv, hgc] = given.rest()?;
     let mode = mode(given)?;
+    entry.say("mode", given.text(&MODE)?);
     let (hgv, hgc) = input::pair(disk, hgv, hgc)?;
+    entry.hgv(&hgv.bytes);
+    entry.digest("hgc", &hgc.bytes);
     let place = Place::of_known(given.path(&COPY)?)?;
     let held = Held::take(disk, place.clone(), given.wait()?)?;
-    let before = held.read()?;
+    let (before, name) = (held.read()?, place.path().display().to_string());
+    entry.begin(&name, &before);
     let mut copy = Register::from_bytes(before.clone());
     let update = |copy: &mut Register| copy.update(mode, &hgv.bytes, &hgc.bytes);
-    let name = place.path().display().to_string();
     let counts = update(&mut copy).map_err(|number| match number {
         Number::Order | Number::OtherActor => Refusal::Number(number, name.clone()),
         Number::Slots => explain::of_slots(&name, &before, |largest| update(largest).map(|_| ())),
         other => explain::of_pair(other, &hgv, &hgc),
     })?;
-    held.replace(copy.bytes(), None)?;
-    let (totals, taken, rejected) = (Totals::of(&hgv.bytes, &hgc.bytes), counts.taken, counts.rejected);
+    let replaced = held.replace(copy.bytes(), None);
+    if matches!(replaced, Ok(()) | Err(Fault::Counts(_))) {
+        entry.say("taken", counts.taken);
+        entry.say("rejected", counts.rejected);
+        entry.digest("after", copy.bytes());
+    }
+    entry.hold(held);
+    replaced?;
+    Ok(told(counts, &Totals::of(&hgv.bytes, &hgc.bytes)))
+}
+
+fn told(counts: Counts, totals: &Totals) -> Told {
+    let (taken, rejected) = (counts.taken, counts.rejected);
     let told = Told::new(format!("taken {taken}, rejected {rejected}\n{}", totals.text()));
-    Ok(told.with("taken", taken).with("rejected", rejected).with("reasons", totals.json()))
+    told.with("taken", taken).with("rejected", rejected).with("reasons", totals.json())
 }

@@ -165,7 +165,7 @@ fn help_of_each() {
     let all = graftspindle(&folder, "--help");
     assert_eq!((all.status, all.fault.as_str()), (0, ""));
     let usages: Vec<&str> = all.said.lines().filter(|line| line.starts_with("  graftspindle ")).collect();
-    assert_eq!(usages.len(), 13);
+    assert_eq!(usages.len(), 15);
     for usage in usages {
         let plain = |word: &&str| word.chars().all(|c| c.is_ascii_lowercase() || c == '-') && !word.starts_with("--");
         let name: Vec<&str> = usage.split_whitespace().skip(1).take_while(plain).collect();
