@@ -18,6 +18,8 @@ mod hooked;
 mod issuers;
 #[path = "command/killed.rs"]
 mod killed;
+#[path = "command/kills.rs"]
+mod kills;
 #[path = "command/left.rs"]
 mod left;
 #[path = "command/limits.rs"]

@@ -35,12 +35,36 @@ fn manual_page() {
     assert!(page.lines().all(|line| !line.starts_with('\'')));
 }
 
+fn readme() -> String {
+    std::fs::read_to_string(concat!(env!("CARGO_MANIFEST_DIR"), "/../../README.md")).expect("it is there")
+}
+
 #[test]
 fn readme_has_the_usages() {
-    let readme = std::fs::read_to_string(concat!(env!("CARGO_MANIFEST_DIR"), "/../../README.md")).expect("it is there");
     for usage in usages() {
-        assert!(readme.contains(&format!("    graftspindle {usage}\n")), "{usage}");
+        assert!(readme().contains(&format!("    graftspindle {usage}\n")), "{usage}");
     }
+}
+
+/// The first block of the README that begins with these words, without its indent.
+fn block(begin: &str) -> String {
+    let readme = readme();
+    let lines = readme.lines().skip_while(|line| !line.starts_with(&format!("    {begin}")));
+    lines.map_while(|line| line.strip_prefix("    ")).map(|line| format!("{line}\n")).collect()
+}
+
+#[test]
+fn sample_of_the_readme() {
+    let folder = Folder::new();
+    folder.write("hgv", block("0900123").as_bytes());
+    for line in [
+        &format!("issuers from-ait --issuers @rows {AIT}"),
+        "register new --slots 4 @register",
+        "import --register @register --issuers @rows --mode incremental --hgc @hgc @hgv",
+    ] {
+        assert_eq!(graftspindle(&folder, line).status, 0, "{line}");
+    }
+    assert_eq!(graftspindle(&folder, "read-back @hgv @hgc").said, block("    1  9799"));
 }
 
 /// What bash offers behind these words, the last of which is not whole.
