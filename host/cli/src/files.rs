@@ -75,7 +75,7 @@ pub fn recover(disk: &dyn Disk, place: &Place, out: Option<&Place>, wait: Wait) 
 /// Removes what a stop left.
 pub fn discard(disk: &dyn Disk, place: &Place, wait: Wait) -> Result<left::Done, Fault> {
     let _lock = lock::take(place, wait)?;
-    Ok(left::discard(disk, place)?)
+    left::discard(disk, place)
 }
 
 /// Whole or not at all, with nothing that stands or falls with it.

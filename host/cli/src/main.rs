@@ -21,7 +21,7 @@ fn main() -> ExitCode {
     let given: Vec<OsString> = std::env::args_os().skip(1).collect();
     let answer = command::run(&Real, &given);
     let said = say(&command::output(&answer, command::wants_json(&given)));
-    match answer.and_then(|_| said) {
+    match answer.and(said) {
         Ok(()) => ExitCode::SUCCESS,
         Err(refusal) => {
             command::warn(&refusal.line());

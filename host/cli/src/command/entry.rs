@@ -109,8 +109,8 @@ impl<'a> Entry<'a> {
 
 /// Does the work, with a line in the journal where one is given: the journal is opened before anything is done.
 pub fn kept<'a>(given: &Arguments, command: &'static str, work: impl FnOnce(&mut Entry<'a>) -> Answer) -> Answer {
-    let mut entry = Entry::default();
-    entry.journal = given.path_if_given(&JOURNAL).map(Journal::open).transpose()?;
+    let journal = given.path_if_given(&JOURNAL).map(Journal::open).transpose()?;
+    let mut entry = Entry { journal, ..Entry::default() };
     let answer = work(&mut entry);
     if answer.is_ok() {
         entry.warnings.iter().for_each(|words| warn(words));

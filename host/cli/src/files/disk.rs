@@ -25,6 +25,8 @@ pub trait Disk {
     fn sync_folder(&self, folder: &Path) -> io::Result<()>;
     /// Whose file it is; a fault where it is no plain file.
     fn owner(&self, path: &Path) -> io::Result<u32>;
+    /// At most so many bytes of a plain file, and whose it is: of one and the same file, and of no link.
+    fn read_owned(&self, path: &Path, most: usize) -> io::Result<(Vec<u8>, u32)>;
     /// Who runs the command; a fault where the system does not say.
     fn user(&self) -> io::Result<u32>;
     /// By which a folder is known again.
@@ -76,12 +78,24 @@ fn write_and_sync(path: &Path, bytes: &[u8], like: Like) -> io::Result<()> {
     file.sync_all()
 }
 
-fn owner(path: &Path) -> io::Result<u32> {
+fn plain(path: &Path) -> io::Result<Metadata> {
     let known = path.symlink_metadata()?;
     if !known.is_file() {
         return Err(io::Error::other("it is no plain file"));
     }
-    Ok(known.uid())
+    Ok(known)
+}
+
+fn read_owned(path: &Path, most: usize) -> io::Result<(Vec<u8>, u32)> {
+    let named = plain(path)?;
+    let file = File::open(path)?;
+    let known = file.metadata()?;
+    if (named.dev(), named.ino()) != (known.dev(), known.ino()) {
+        return Err(io::Error::other("it was exchanged meanwhile"));
+    }
+    let mut bytes = Vec::new();
+    file.take(most as u64).read_to_end(&mut bytes)?;
+    Ok((bytes, known.uid()))
 }
 
 impl Disk for Real {
@@ -113,7 +127,11 @@ impl Disk for Real {
     }
 
     fn owner(&self, path: &Path) -> io::Result<u32> {
-        owner(path).map_err(told("believe", path))
+        plain(path).map(|known| known.uid()).map_err(told("believe", path))
+    }
+
+    fn read_owned(&self, path: &Path, most: usize) -> io::Result<(Vec<u8>, u32)> {
+        read_owned(path, most).map_err(told("believe", path))
     }
 
     fn user(&self) -> io::Result<u32> {

@@ -20,6 +20,8 @@ use graftspindle::sizes::{HGC_MOST, REGISTER_MOST};
 pub enum Done {
     Nothing,
     Undone,
+    /// Without a look at whether it counts.
+    Discarded,
     /// The HGC stands there.
     Written(PathBuf),
 }
@@ -29,7 +31,8 @@ enum Left {
     Nothing,
     /// With the note, where that was written whole.
     ToUndo(Option<Note>),
-    ToFinish(Note),
+    /// With the note's writer.
+    ToFinish(Note, u32),
     /// The note is of another register.
     Foreign(Note),
 }
@@ -42,18 +45,18 @@ pub fn is_left(disk: &dyn Disk, register: &Place) -> io::Result<bool> {
     Ok(disk.exists(&register.pending())? || disk.exists(&register.note())?)
 }
 
-/// Ours, the administrator's, or the register owner's: others may have made it to have us write where they may not.
-fn believe(disk: &dyn Disk, register: &Place) -> Result<(), Fault> {
+/// The note's bytes and its writer: ours, the administrator's, or the register owner's. Others may have made it to have us
+/// write where they may not.
+fn believed(disk: &dyn Disk, register: &Place) -> Result<(Vec<u8>, u32), Fault> {
     let (note, words) = (register.note(), "it is neither the register owner's nor ours");
-    let trusted = disk.owner(&note).and_then(|owner| {
-        let known = disk.user().is_ok_and(|user| owner == user) || owner == 0;
-        Ok(known || owner == disk.owner(register.path())?)
+    let found = disk.read_owned(&note, NOTE_MOST).and_then(|(bytes, writer)| {
+        let known = writer == 0 || disk.user().is_ok_and(|user| writer == user);
+        match known || writer == disk.owner(register.path())? {
+            true => Ok((bytes, writer)),
+            false => Err(io::Error::other(words)),
+        }
     });
-    match trusted {
-        Ok(true) => Ok(()),
-        Ok(false) => Err(stuck(register, &format!("{} is not believed: {words}", note.display()))),
-        Err(fault) => Err(stuck(register, &format!("{} is not believed: {fault}", note.display()))),
-    }
+    found.map_err(|fault| stuck(register, &format!("{} is not believed: {fault}", note.display())))
 }
 
 fn stuck(register: &Place, what: &str) -> Fault {
@@ -66,15 +69,15 @@ fn found(disk: &dyn Disk, register: &Place) -> Result<Left, Fault> {
     if !disk.exists(&register.note())? {
         return Ok(if on_its_way { Left::ToUndo(None) } else { Left::Nothing });
     }
-    believe(disk, register)?;
-    let Some(note) = Note::read(&disk.read(&register.note(), NOTE_MOST)?) else {
+    let (bytes, writer) = believed(disk, register)?;
+    let Some(note) = Note::read(&bytes) else {
         let damaged = || stuck(register, &format!("{} is damaged", register.note().display()));
         return if on_its_way { Ok(Left::ToUndo(None)) } else { Err(damaged()) };
     };
     let now = disk.read(register.path(), REGISTER_MOST + 1).map(|bytes| digest::of(&bytes));
     let is_after = now.is_ok_and(|now| now == note.after);
     Ok(match is_after && (note.before != note.after || !on_its_way) {
-        true => Left::ToFinish(note),
+        true => Left::ToFinish(note, writer),
         false if on_its_way => Left::ToUndo(Some(note)),
         false => Left::Foreign(note),
     })
@@ -85,7 +88,7 @@ pub fn state(disk: &dyn Disk, register: &Place) -> Result<Option<String>, Fault>
     Ok(match found(disk, register)? {
         Left::Nothing => None,
         Left::ToUndo(_) => Some("an import was stopped before it counts, and the next command undoes it".to_string()),
-        Left::ToFinish(note) => {
+        Left::ToFinish(note, _) => {
             Some(format!("an import counts, and its HGC for {} is still owed: register recover", note.out.display()))
         }
         Left::Foreign(note) => return Err(foreign(register, &note)),
@@ -97,8 +100,8 @@ pub fn recover(disk: &dyn Disk, register: &Place) -> Result<Done, Fault> {
     match found(disk, register)? {
         Left::Nothing => Ok(Done::Nothing),
         Left::ToUndo(note) => undo(disk, register, note),
-        Left::ToFinish(note) => {
-            may_write(disk, register, &note).map_err(|fault| owed(register, &note, &fault))?;
+        Left::ToFinish(note, writer) => {
+            may_write(disk, register, &note, writer).map_err(|fault| owed(register, &note, &fault))?;
             finish(disk, register, &note, &note.out)
         }
         Left::Foreign(note) => Err(foreign(register, &note)),
@@ -109,11 +112,11 @@ pub fn recover(disk: &dyn Disk, register: &Place) -> Result<Done, Fault> {
 /// note another register's.
 pub fn recover_by_hand(disk: &dyn Disk, register: &Place, out: Option<&Place>) -> Result<Done, Fault> {
     match (found(disk, register)?, out) {
-        (Left::ToFinish(note), None) => {
-            is_the_writers(disk, register, &note).map_err(|fault| owed(register, &note, &fault))?;
+        (Left::ToFinish(note, writer), None) => {
+            is_the_writers(disk, register, &note, writer).map_err(|fault| owed(register, &note, &fault))?;
             finish(disk, register, &note, &note.out)
         }
-        (Left::ToFinish(note) | Left::Foreign(note), Some(out)) => finish(disk, register, &note, out.path()),
+        (Left::ToFinish(note, _) | Left::Foreign(note), Some(out)) => finish(disk, register, &note, out.path()),
         (Left::Foreign(note), None) => Err(foreign(register, &note)),
         (Left::ToUndo(note), _) => undo(disk, register, note),
         (Left::Nothing, _) => Ok(Done::Nothing),
@@ -121,11 +124,12 @@ pub fn recover_by_hand(disk: &dyn Disk, register: &Place, out: Option<&Place>) -
 }
 
 /// Removes what was left, with an HGC that is still owed.
-pub fn discard(disk: &dyn Disk, register: &Place) -> io::Result<Done> {
-    let left = is_left(disk, register)?;
-    remove(disk, &register.note())?;
-    remove(disk, &register.pending())?;
-    Ok(if left { Done::Undone } else { Done::Nothing })
+pub fn discard(disk: &dyn Disk, register: &Place) -> Result<Done, Fault> {
+    if !is_left(disk, register)? {
+        return Ok(Done::Nothing);
+    }
+    let note = believed(disk, register).ok().and_then(|(bytes, _)| Note::read(&bytes));
+    undo(disk, register, note).map(|_| Done::Discarded)
 }
 
 fn foreign(register: &Place, note: &Note) -> Fault {
@@ -147,8 +151,8 @@ fn owed(register: &Place, note: &Note, fault: &io::Error) -> Fault {
 }
 
 /// Where the note is another user's, the HGC on its way has to be his too: so he could write there himself.
-fn is_the_writers(disk: &dyn Disk, register: &Place, note: &Note) -> io::Result<()> {
-    let (writer, user) = (disk.owner(&register.note())?, disk.user());
+fn is_the_writers(disk: &dyn Disk, register: &Place, note: &Note, writer: u32) -> io::Result<()> {
+    let user = disk.user();
     if writer == 0 || user.as_ref().is_ok_and(|&user| user == writer) {
         return Ok(());
     }
@@ -159,12 +163,12 @@ fn is_the_writers(disk: &dyn Disk, register: &Place, note: &Note) -> io::Result<
     }
 }
 
-fn may_write(disk: &dyn Disk, register: &Place, note: &Note) -> io::Result<()> {
+fn may_write(disk: &dyn Disk, register: &Place, note: &Note, writer: u32) -> io::Result<()> {
     let out = Place::at(&note.out);
     if disk.number_of(out.folder())? != note.folder {
         return Err(io::Error::other(format!("{} is another folder than it was", out.folder().display())));
     }
-    is_the_writers(disk, register, note)
+    is_the_writers(disk, register, note, writer)
 }
 
 /// The register on its way goes last: without it the note's import would seem to count. What is left of the HGC on its

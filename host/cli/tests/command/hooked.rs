@@ -36,6 +36,9 @@ impl<F: Fn() -> io::Result<()>> Disk for Hooked<F> {
     fn owner(&self, path: &Path) -> io::Result<u32> {
         Real.owner(path)
     }
+    fn read_owned(&self, path: &Path, most: usize) -> io::Result<(Vec<u8>, u32)> {
+        Real.read_owned(path, most)
+    }
     fn user(&self) -> io::Result<u32> {
         Real.user()
     }
@@ -71,6 +74,9 @@ impl Disk for Shut {
     }
     fn owner(&self, path: &Path) -> io::Result<u32> {
         Real.owner(path)
+    }
+    fn read_owned(&self, path: &Path, most: usize) -> io::Result<(Vec<u8>, u32)> {
+        Real.read_owned(path, most)
     }
     fn user(&self) -> io::Result<u32> {
         Real.user()

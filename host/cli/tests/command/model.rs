@@ -186,6 +186,10 @@ impl Disk for Model {
         Ok(0)
     }
 
+    fn read_owned(&self, path: &Path, most: usize) -> io::Result<(Vec<u8>, u32)> {
+        Ok((self.read(path, most)?, 0))
+    }
+
     fn user(&self) -> io::Result<u32> {
         Ok(0)
     }

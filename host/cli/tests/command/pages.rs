@@ -1,6 +1,8 @@
 //! The manual page, the completions and the README name every command and option that there is.
 
 use crate::common::*;
+use graftspindle_checks::sample;
+use std::path::Path;
 use std::process::Command;
 
 fn said(line: &str) -> String {
@@ -35,8 +37,13 @@ fn manual_page() {
     assert!(page.lines().all(|line| !line.starts_with('\'')));
 }
 
+fn page(name: &str) -> String {
+    let path = Path::new(env!("CARGO_MANIFEST_DIR")).join("../..").join(name);
+    std::fs::read_to_string(path).expect("it is there")
+}
+
 fn readme() -> String {
-    std::fs::read_to_string(concat!(env!("CARGO_MANIFEST_DIR"), "/../../README.md")).expect("it is there")
+    page("README.md")
 }
 
 #[test]
@@ -46,17 +53,16 @@ fn readme_has_the_usages() {
     }
 }
 
-/// The first block of the README that begins with these words, without its indent.
-fn block(begin: &str) -> String {
-    let readme = readme();
-    let lines = readme.lines().skip_while(|line| !line.starts_with(&format!("    {begin}")));
+/// The first block of a page that begins with these words, without its indent.
+fn block(page: &str, begin: &str) -> String {
+    let lines = page.lines().skip_while(|line| !line.starts_with(&format!("    {begin}")));
     lines.map_while(|line| line.strip_prefix("    ")).map(|line| format!("{line}\n")).collect()
 }
 
 #[test]
 fn sample_of_the_readme() {
     let folder = Folder::new();
-    folder.write("hgv", block("0900123").as_bytes());
+    folder.write("hgv", block(&readme(), "0900123").as_bytes());
     for line in [
         &format!("issuers from-ait --issuers @rows {AIT}"),
         "register new --slots 4 @register",
@@ -64,7 +70,7 @@ fn sample_of_the_readme() {
     ] {
         assert_eq!(graftspindle(&folder, line).status, 0, "{line}");
     }
-    assert_eq!(graftspindle(&folder, "read-back @hgv @hgc").said, block("    1  9799"));
+    assert_eq!(graftspindle(&folder, "read-back @hgv @hgc").said, block(&readme(), "    1  9799"));
 }
 
 /// What bash offers behind these words, the last of which is not whole.
@@ -111,4 +117,45 @@ fn completions_of_the_others() {
     }
     assert!(fish.contains("-l mode -x -a 'incremental full'"));
     assert_eq!(graftspindle(&Folder::new(), "completions tcsh").status, 1);
+}
+
+/// The page for the operator says of each status what to do.
+#[test]
+fn operating_has_each_status() {
+    let page = page("docs/OPERATING.md");
+    let cells = page.lines().filter_map(|line| line.strip_prefix("| ")?.split_once(" |"));
+    let told: Vec<u64> =
+        cells.flat_map(|(cell, _)| cell.split(", ")).filter_map(|number| number.parse().ok()).collect();
+    let all: Vec<u64> = (0..=4).chain(21..=34).chain(40..=42).chain(51..=53).collect();
+    for status in &all {
+        assert_eq!(told.iter().filter(|known| *known == status).count(), 1, "{status}");
+    }
+    assert_eq!(told.len(), all.len());
+}
+
+/// The page's script: what is taken, refused and stopped goes where it says.
+#[test]
+fn script_of_operating() {
+    let folder = ready();
+    let script = block(&page("docs/OPERATING.md"), "#!/bin/sh").replace("/var/lib/graftspindle", &folder.text("."));
+    for name in ["inbox", "outbox", "done", "refused"] {
+        std::fs::create_dir(folder.path(name)).expect("a folder");
+    }
+    folder.write("inbox/a.hgv", &sample::hgv(2));
+    folder.write("inbox/b-full.hgv", &sample::hgv(3));
+    folder.write("inbox/c.hgv", b"short");
+    let path = Path::new(program()).parent().expect("a folder").display().to_string();
+    let run = || {
+        let path = format!("{path}:{}", std::env::var("PATH").unwrap_or_default());
+        ran(Command::new("sh").args(["-c", &script]).env("PATH", path).output().expect("a shell"))
+    };
+    assert_eq!(run().status, 0);
+    for name in ["done/a.hgv", "done/b-full.hgv", "outbox/a.hgc", "outbox/b-full.hgc", "refused/c.hgv"] {
+        assert!(exists(&folder, name), "{name}");
+    }
+    assert_eq!(String::from_utf8(folder.read("journal")).expect("UTF-8").lines().count(), 3);
+    folder.write("inbox/d.hgv", &sample::hgv(1));
+    folder.write("register.graftspindle-note", b"not a whole note");
+    assert_eq!(run().status, 3);
+    assert!(exists(&folder, "inbox/d.hgv"));
 }

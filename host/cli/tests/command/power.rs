@@ -119,6 +119,9 @@ impl Disk for Without<'_> {
     fn owner(&self, path: &Path) -> io::Result<u32> {
         self.0.owner(path)
     }
+    fn read_owned(&self, path: &Path, most: usize) -> io::Result<(Vec<u8>, u32)> {
+        self.0.read_owned(path, most)
+    }
     fn user(&self) -> io::Result<u32> {
         self.0.user()
     }

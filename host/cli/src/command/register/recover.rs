@@ -26,7 +26,10 @@ fn words(done: &Done, place: &Place) -> String {
     let name = place.path().display();
     match done {
         Done::Nothing => format!("nothing was left beside {name}\n"),
-        Done::Undone => format!("what was left beside {name} is removed; the register is as it was\n"),
+        Done::Undone => {
+            format!("what was left beside {name} did not count and is removed; the register is as it was\n")
+        }
+        Done::Discarded => format!("what was left beside {name} is removed, with an HGC that it may have kept\n"),
         Done::Written(out) => format!("the register {name} counts; the HGC is {}\n", out.display()),
     }
 }
@@ -58,6 +61,7 @@ fn run(disk: &dyn Disk, given: &Arguments) -> Answer {
     let state = match &done {
         Done::Nothing => "nothing",
         Done::Undone => "undone",
+        Done::Discarded => "discarded",
         Done::Written(_) => "written",
     };
     Ok(Told::new(words(&done, &place)).with("left", state))
