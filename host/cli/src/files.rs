@@ -13,6 +13,7 @@ pub mod lock;
 pub mod note;
 pub mod place;
 pub mod private;
+mod words;
 
 use std::io;
 use std::time::Duration;

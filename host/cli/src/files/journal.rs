@@ -12,6 +12,7 @@ use super::fault::Fault;
 use super::left;
 use super::note::Note;
 use super::place::Place;
+use super::words::counts;
 use crate::digest;
 use graftspindle::sizes::REGISTER_MOST;
 
@@ -64,19 +65,6 @@ fn finish(disk: &dyn Disk, register: &Place, hgc: Option<&Place>) -> io::Result<
         remove(disk, &register.note())?;
     }
     Ok(())
-}
-
-fn counts(register: &Place, hgc: Option<Hgc>, fault: &io::Error) -> Fault {
-    let name = register.path().display();
-    Fault::Counts(match hgc {
-        None => format!("{name} is new and counts as written, but {fault}"),
-        Some((place, _)) => format!(
-            "the register {name} is new and the list counts as imported, but {fault}; the HGC for {} is kept beside the \
-             register: the next command on it tries again, and graftspindle register recover --hgc OTHER {name} writes it \
-             elsewhere",
-            place.path().display()
-        ),
-    })
 }
 
 /// Where the name cannot be, its folder being none or gone, nothing is there.

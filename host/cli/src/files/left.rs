@@ -12,6 +12,7 @@ use super::fault::Fault;
 use super::journal::remove;
 use super::note::Note;
 use super::place::Place;
+use super::words::{foreign, owed, stuck};
 use crate::digest;
 use graftspindle::sizes::{HGC_MOST, REGISTER_MOST};
 
@@ -57,11 +58,6 @@ fn believed(disk: &dyn Disk, register: &Place) -> Result<(Vec<u8>, u32), Fault> 
         }
     });
     found.map_err(|fault| stuck(register, &format!("{} is not believed: {fault}", note.display())))
-}
-
-fn stuck(register: &Place, what: &str) -> Fault {
-    let name = register.path().display();
-    Fault::Left(format!("{what}; look at it, and graftspindle register recover --discard {name} removes it"))
 }
 
 fn found(disk: &dyn Disk, register: &Place) -> Result<Left, Fault> {
@@ -130,24 +126,6 @@ pub fn discard(disk: &dyn Disk, register: &Place) -> Result<Done, Fault> {
     }
     let note = believed(disk, register).ok().and_then(|(bytes, _)| Note::read(&bytes));
     undo(disk, register, note).map(|_| Done::Discarded)
-}
-
-fn foreign(register: &Place, note: &Note) -> Fault {
-    let (name, out, beside) = (register.path().display(), note.out.display(), register.note());
-    Fault::Left(format!(
-        "{} is of another register than {name} now is, which was perhaps restored from a backup: its HGC for {out} confirms \
-         an import that is not in it; graftspindle register recover --discard {name} drops it, and --hgc OTHER writes it \
-         nevertheless",
-        beside.display()
-    ))
-}
-
-fn owed(register: &Place, note: &Note, fault: &io::Error) -> Fault {
-    let (name, out) = (register.path().display(), note.out.display());
-    Fault::Left(format!(
-        "the register {name} is new by an import that counts, and its HGC for {out} is still owed: {fault}; \
-         graftspindle register recover {name} tries again, and with --hgc OTHER writes it elsewhere"
-    ))
 }
 
 /// Where the note is another user's, the HGC on its way has to be his too: so he could write there himself.
