@@ -31,6 +31,7 @@ fn open(path: &Path) -> io::Result<File> {
 }
 
 impl Journal {
+    /// Makes the file where there is none.
     pub fn open(path: &Path) -> io::Result<Journal> {
         let file = open(path).map_err(told("open the journal", path))?;
         Ok(Journal { path: path.to_path_buf(), file })

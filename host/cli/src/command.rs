@@ -38,16 +38,22 @@ pub use told::{output, Told};
 /// What a command has to say, or why it refuses.
 pub type Answer = Result<Told, Refusal>;
 
+/// A command, with all that parsing and help know of it.
 pub struct Command {
+    /// One word or two.
     pub name: &'static str,
+    /// In the order of the usage.
     pub options: &'static [Use],
     /// The words behind the options; one in brackets may be missing.
     pub words: &'static [&'static str],
+    /// What it does, in lines.
     pub help: &'static str,
+    /// Does it.
     pub run: fn(&dyn Disk, &Arguments) -> Answer,
 }
 
 impl Command {
+    /// All its options, those of every command among them.
     pub fn takes(&self) -> impl Iterator<Item = &'static Opt> {
         self.options.iter().map(|option| option.option()).chain([&options::JSON])
     }

@@ -42,14 +42,17 @@ impl<'a> Held<'a> {
         Ok(Held { disk, place, _lock: lock })
     }
 
+    /// The register's bytes.
     pub fn read(&self) -> io::Result<Vec<u8>> {
         self.disk.read(self.place.path(), REGISTER_MOST + 1)
     }
 
+    /// Whether there is a file at the place.
     pub fn is_there(&self) -> io::Result<bool> {
         self.disk.exists(self.place.path())
     }
 
+    /// Makes register and HGC new, or leaves both as they were.
     pub fn replace(&self, register: &[u8], hgc: Option<journal::Hgc>) -> Result<(), Fault> {
         journal::replace(self.disk, &self.place, register, hgc)
     }

@@ -9,6 +9,7 @@ use super::help::usage;
 use super::options::{Opt, WAIT};
 use super::{Command, Refusal};
 
+/// What was given behind a command.
 pub struct Arguments {
     options: Vec<(&'static Opt, OsString)>,
     rest: Vec<OsString>,
@@ -24,6 +25,7 @@ fn option(word: &OsStr) -> Option<(String, Option<OsString>)> {
 }
 
 impl Arguments {
+    /// Refused where an option is not the command's, stands twice or lacks its value.
     pub fn parse(command: &'static Command, given: &[OsString]) -> Result<Arguments, Refusal> {
         let mut parsed = Arguments { options: Vec::new(), rest: Vec::new(), command };
         let mut words = given.iter();
@@ -70,22 +72,27 @@ impl Arguments {
         self.value(option).ok_or_else(|| self.fault(&format!("--{} is missing", option.name)))
     }
 
+    /// Whether the option is among them.
     pub fn is_given(&self, option: &Opt) -> bool {
         self.value(option).is_some()
     }
 
+    /// Its value as a file's name; refused where it is missing.
     pub fn path(&self, option: &Opt) -> Result<&Path, Refusal> {
         self.needed(option).map(Path::new)
     }
 
+    /// The same where it may be missing.
     pub fn path_if_given(&self, option: &Opt) -> Option<&Path> {
         self.value(option).map(Path::new)
     }
 
+    /// Its value as text; refused where it is missing.
     pub fn text(&self, option: &Opt) -> Result<String, Refusal> {
         Ok(self.needed(option)?.to_string_lossy().into_owned())
     }
 
+    /// The same where it may be missing.
     pub fn text_if_given(&self, option: &Opt) -> Option<String> {
         self.value(option).map(|value| value.to_string_lossy().into_owned())
     }

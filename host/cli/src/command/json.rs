@@ -2,13 +2,20 @@
 
 use std::fmt;
 
+/// A value.
 #[derive(Clone, Debug, PartialEq, Eq)]
 pub enum Json {
+    /// `null`.
     Nothing,
+    /// `true` or `false`.
     Flag(bool),
+    /// A number.
     Number(u64),
+    /// A text, in quotes.
     Text(String),
+    /// Values, in their order.
     List(Vec<Json>),
+    /// Named values, in their order.
     Object(Fields),
 }
 

@@ -3,27 +3,36 @@
 /// What can be completed behind an option.
 #[derive(Clone, Copy, Debug, PartialEq, Eq)]
 pub enum Kind {
+    /// A file's name.
     File,
+    /// One of these words.
     OneOf(&'static [&'static str]),
+    /// Nothing that a shell knows.
     Text,
 }
 
 /// An option, and what its value is called where it takes one.
 #[derive(Debug)]
 pub struct Opt {
+    /// Without the hyphens.
     pub name: &'static str,
+    /// What its value is called, and what it can be.
     pub value: Option<(&'static str, Kind)>,
+    /// What it is for, in a sentence.
     pub about: &'static str,
 }
 
 /// How a command takes an option.
 #[derive(Clone, Copy, Debug)]
 pub enum Use {
+    /// Without it the command is refused.
     Needed(&'static Opt),
+    /// It may be missing.
     Optional(&'static Opt),
 }
 
 impl Use {
+    /// The option itself.
     pub fn option(self) -> &'static Opt {
         let (Use::Needed(option) | Use::Optional(option)) = self;
         option
@@ -39,14 +48,7 @@ impl Use {
 }
 
 impl Opt {
-    const fn with(name: &'static str, value: &'static str, kind: Kind, about: &'static str) -> Opt {
-        Opt { name, value: Some((value, kind)), about }
-    }
-
-    const fn flag(name: &'static str, about: &'static str) -> Opt {
-        Opt { name, value: None, about }
-    }
-
+    /// `--hgc OUT`.
     pub fn usage(&self) -> String {
         match self.value {
             Some((value, _)) => format!("--{} {value}", self.name),
@@ -58,26 +60,36 @@ impl Opt {
 const MODES: &[&str] = &["incremental", "full"];
 const MOMENT: &str = "YYYYMMDDhhmmss";
 
-pub static REGISTER: Opt = Opt::with("register", "R", Kind::File, "The register.");
-pub static COPY: Opt = Opt::with("copy", "C", Kind::File, "The provider's copy of his part of the register.");
-pub static ISSUERS: Opt = Opt::with("issuers", "ROWS", Kind::File, "The issuer rows, 24 bytes each.");
-pub static MODE: Opt = Opt::with("mode", "incremental|full", Kind::OneOf(MODES), "The mode of the list.");
-pub static RECEIVED: Opt =
-    Opt::with("received", MOMENT, Kind::Text, "The moment of reception, UTC; the present one unless given.");
-pub static HGC: Opt = Opt::with("hgc", "OUT", Kind::File, "Where the confirmation is written.");
-pub static AT: Opt =
-    Opt::with("at", MOMENT, Kind::Text, "The time that is asked for, UTC; the present one unless given.");
-pub static SLOTS: Opt = Opt::with("slots", "N", Kind::Text, "How many slots there are.");
-pub static WAIT: Opt = Opt::with(
+/// A row: the constant, the option's name, its value and what that can be where it takes one, and what it is for.
+macro_rules! option {
+    ($constant:ident, $name:literal, $about:literal) => {
+        #[doc = $about]
+        pub static $constant: Opt = Opt { name: $name, value: None, about: $about };
+    };
+    ($constant:ident, $name:literal, $value:expr, $kind:expr, $about:literal) => {
+        #[doc = $about]
+        pub static $constant: Opt = Opt { name: $name, value: Some(($value, $kind)), about: $about };
+    };
+}
+
+option!(REGISTER, "register", "R", Kind::File, "The register.");
+option!(COPY, "copy", "C", Kind::File, "The provider's copy of his part of the register.");
+option!(ISSUERS, "issuers", "ROWS", Kind::File, "The issuer rows, 24 bytes each.");
+option!(MODE, "mode", "incremental|full", Kind::OneOf(MODES), "The mode of the list.");
+option!(RECEIVED, "received", MOMENT, Kind::Text, "The moment of reception, UTC; the present one unless given.");
+option!(HGC, "hgc", "OUT", Kind::File, "Where the confirmation is written.");
+option!(AT, "at", MOMENT, Kind::Text, "The time that is asked for, UTC; the present one unless given.");
+option!(SLOTS, "slots", "N", Kind::Text, "How many slots there are.");
+option!(
+    WAIT,
     "wait",
     "SECONDS",
     Kind::Text,
-    "How long another import is waited for; as long as it takes unless given.",
+    "How long another import is waited for; as long as it takes unless given."
 );
-pub static FORCE: Opt = Opt::flag("force", "Replaces what is there, of whatever kind it is.");
-pub static JOURNAL: Opt =
-    Opt::with("journal", "J", Kind::File, "The journal for the audit, which gets a line of JSON for this command.");
-pub static HELP: Opt = Opt::flag("help", "Says what the command does; -h does too.");
-pub static JSON: Opt = Opt::flag("json", "Answers by one line of JSON, at a refusal too.");
-pub static REJECTED: Opt = Opt::flag("rejected", "Only the lines that were rejected.");
-pub static DISCARD: Opt = Opt::flag("discard", "Removes what was left, with an HGC that is still owed.");
+option!(JOURNAL, "journal", "J", Kind::File, "The journal for the audit, which gets a line of JSON for this command.");
+option!(FORCE, "force", "Replaces what is there, of whatever kind it is.");
+option!(REJECTED, "rejected", "Only the lines that were rejected.");
+option!(DISCARD, "discard", "Removes what was left, with an HGC that is still owed.");
+option!(JSON, "json", "Answers by one line of JSON, at a refusal too.");
+option!(HELP, "help", "Says what the command does; -h does too.");

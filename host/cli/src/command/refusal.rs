@@ -5,6 +5,7 @@ use std::io;
 use crate::files::Fault;
 use graftspindle::Number;
 
+/// Each has its status.
 #[derive(Debug)]
 pub enum Refusal {
     /// A number of the definition, and what can be said beside its sentence.
@@ -20,6 +21,7 @@ pub enum Refusal {
 }
 
 impl Refusal {
+    /// The exit status.
     pub fn status(&self) -> u8 {
         match self {
             Refusal::Number(number, _) => u8::try_from(number.number()).unwrap_or(u8::MAX),

@@ -3,13 +3,17 @@
 use super::json::{Fields, Json};
 use super::Answer;
 
+/// An answer in both forms.
 #[derive(Clone, Debug, Default, PartialEq, Eq)]
 pub struct Told {
+    /// For people: lines.
     pub text: String,
+    /// For programs.
     pub fields: Fields,
 }
 
 impl Told {
+    /// Lines, without a field yet.
     pub fn new(text: String) -> Told {
         Told { text, fields: Fields::new() }
     }
@@ -20,6 +24,7 @@ impl Told {
         Json::Object([("status", 0u64.into())].into_iter().chain(self.fields.clone()).chain(beside).collect())
     }
 
+    /// One field more.
     pub fn with(mut self, name: &'static str, value: impl Into<Json>) -> Told {
         self.fields.push((name, value.into()));
         self

@@ -8,10 +8,13 @@ use std::path::Path;
 /// The file whose permissions and group a new one gets, where it is there; and its owner, or that of the process.
 #[derive(Clone, Copy)]
 pub enum Like<'a> {
+    /// With its owner, where root runs the command.
     Whole(&'a Path),
+    /// The owner is who runs the command.
     ButOwner(&'a Path),
 }
 
+/// What keeping files asks of a file system.
 pub trait Disk {
     /// At most so many bytes from the file's beginning.
     fn read(&self, path: &Path, most: usize) -> io::Result<Vec<u8>>;
@@ -20,8 +23,11 @@ pub trait Disk {
     /// Makes the file: what had the name goes, and no link is followed. The bytes are on the disk when it returns; the
     /// file's name is only after `sync_folder`.
     fn write(&self, path: &Path, bytes: &[u8], like: Like) -> io::Result<()>;
+    /// What had the other name is replaced at one stroke.
     fn rename(&self, from: &Path, to: &Path) -> io::Result<()>;
+    /// A link goes itself, not what it leads to.
     fn remove(&self, path: &Path) -> io::Result<()>;
+    /// The names in the folder are on the disk when it returns.
     fn sync_folder(&self, folder: &Path) -> io::Result<()>;
     /// Whose file it is; a fault where it is no plain file.
     fn owner(&self, path: &Path) -> io::Result<u32>;
@@ -33,6 +39,7 @@ pub trait Disk {
     fn number_of(&self, folder: &Path) -> io::Result<u64>;
 }
 
+/// The file system that there is.
 pub struct Real;
 
 /// What holds PANs is nobody's but the owner's and the group's, unless the file was there and is otherwise.

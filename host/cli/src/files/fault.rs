@@ -2,6 +2,7 @@
 
 use std::io;
 
+/// What could not be done.
 #[derive(Debug)]
 pub enum Fault {
     /// Of the file system: nothing counts, and all is as it was.

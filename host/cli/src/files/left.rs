@@ -19,7 +19,9 @@ use graftspindle::sizes::{HGC_MOST, REGISTER_MOST};
 /// What there was to do, and is done.
 #[derive(Debug, PartialEq, Eq)]
 pub enum Done {
+    /// Nothing was left.
     Nothing,
+    /// It did not count.
     Undone,
     /// Without a look at whether it counts.
     Discarded,

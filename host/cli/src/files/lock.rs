@@ -14,6 +14,7 @@ use super::holder;
 use super::place::Place;
 use crate::say::warn;
 
+/// Held as long as the value is there.
 pub struct Lock(File);
 
 impl Drop for Lock {

@@ -8,6 +8,7 @@ use std::path::PathBuf;
 
 use crate::digest::{self, Digest};
 
+/// What is known of an import that is on its way.
 #[derive(Clone, Debug, PartialEq, Eq)]
 pub struct Note {
     /// Where the HGC belongs.
@@ -28,6 +29,7 @@ const HEAD: &[u8] = b"graftspindle note 2";
 const END: u8 = 0;
 
 impl Note {
+    /// As it stands in its file.
     pub fn bytes(&self) -> Vec<u8> {
         let mut bytes = Vec::new();
         let folder = self.folder.to_string();

@@ -9,6 +9,7 @@ use crate::digest;
 
 const ENDING: &str = ".graftspindle-";
 
+/// A file's name without links.
 #[derive(Clone, Debug, PartialEq, Eq)]
 pub struct Place(PathBuf);
 
@@ -53,10 +54,12 @@ impl Place {
         Place(path.into())
     }
 
+    /// The name.
     pub fn path(&self) -> &Path {
         &self.0
     }
 
+    /// The folder that it stands in.
     pub fn folder(&self) -> &Path {
         self.0.parent().unwrap_or(Path::new("/"))
     }
@@ -79,10 +82,12 @@ impl Place {
         self.beside(&digest[..16])
     }
 
+    /// The note of an import that is on its way.
     pub fn note(&self) -> PathBuf {
         self.beside("note")
     }
 
+    /// The file that is locked.
     pub fn lock(&self) -> PathBuf {
         self.beside("lock")
     }

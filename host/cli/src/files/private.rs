@@ -16,6 +16,7 @@ pub struct Private(PathBuf);
 const TRIES: u32 = 16;
 
 impl Private {
+    /// In the folder for such files.
     pub fn new() -> io::Result<Private> {
         let above = std::env::temp_dir();
         let above = above.canonicalize().map_err(told("find", &above))?;
@@ -31,6 +32,7 @@ impl Private {
         made.map_err(told("make a folder in", &above))
     }
 
+    /// Its name.
     pub fn path(&self) -> &Path {
         &self.0
     }
