@@ -169,6 +169,9 @@ fn finish(disk: &dyn Disk, register: &Place, note: &Note, out: &Path) -> Result<
     if disk.exists(&register.pending())? {
         remove(disk, &register.pending())?;
     }
+    if out != note.out {
+        let _ = remove(disk, &Place::at(&note.out).pending_for(register));
+    }
     remove(disk, &register.note())?;
     Ok(Done::Written(out.to_path_buf()))
 }

@@ -148,3 +148,15 @@ fn place_that_shuts_after_the_register_counts() {
     assert_eq!(graftspindle(&folder, SHOW).status, 0);
     assert!(both(&folder) == new);
 }
+
+/// Written elsewhere by hand, nothing is left at the first place either.
+#[test]
+fn nothing_is_left_at_the_first_place() {
+    let folder = ready();
+    let given: Vec<_> = words(&folder, IMPORT).into_iter().map(Into::into).collect();
+    let refusal = graftspindle_cli::command::run(&Shut(folder.path("hgc")), &given).expect_err("shut");
+    assert_eq!(refusal.status(), 2);
+    assert_eq!(graftspindle(&folder, "register recover --hgc @elsewhere @register").status, 0);
+    assert_eq!(folder.read_if_there("elsewhere"), imported().1);
+    assert_eq!(folder.all().len(), 5, "left over: {:?}", folder.all());
+}
