@@ -24,6 +24,11 @@ fn option(word: &OsStr) -> Option<(String, Option<OsString>)> {
     Some((name, parts.next().map(|value| OsStr::from_bytes(value).to_os_string())))
 }
 
+/// `-x`: there are no options of one letter but `-h`. A hyphen alone is standard input.
+fn is_short(word: &OsStr) -> bool {
+    word.len() > 1 && word.as_bytes()[0] == b'-'
+}
+
 impl Arguments {
     /// Refused where an option is not the command's, stands twice or lacks its value.
     pub fn parse(command: &'static Command, given: &[OsString]) -> Result<Arguments, Refusal> {
@@ -31,6 +36,7 @@ impl Arguments {
         let mut words = given.iter();
         while let Some(word) = words.next() {
             match option(word) {
+                None if is_short(word) => return Err(parsed.fault(&format!("there is no option {}", word.display()))),
                 None => parsed.rest.push(word.clone()),
                 Some((name, None)) if name.is_empty() => parsed.rest.extend(words.by_ref().cloned()),
                 Some((name, value)) => parsed.add(&name, value, &mut words)?,
@@ -51,7 +57,10 @@ impl Arguments {
             (None, None) => OsString::new(),
             (None, Some(_)) => return Err(self.fault(&format!("--{name} takes no value"))),
             (Some(_), Some(value)) => value,
-            (Some(_), None) => words.next().cloned().ok_or_else(|| self.fault(&format!("--{name} lacks its value")))?,
+            (Some(_), None) => {
+                let next = words.next().filter(|word| self::option(word).is_none());
+                next.cloned().ok_or_else(|| self.fault(&format!("--{name} lacks its value")))?
+            }
         };
         if self.is_given(option) {
             return Err(self.fault(&format!("--{name} stands twice")));
