@@ -13,6 +13,9 @@ pub struct Journal {
     file: File,
 }
 
+/// What each line begins with.
+const BEGIN: u8 = b'{';
+
 /// No link is followed.
 fn open(path: &Path) -> io::Result<File> {
     let mut options = OpenOptions::new();
@@ -33,8 +36,14 @@ fn open(path: &Path) -> io::Result<File> {
 impl Journal {
     /// Makes the file where there is none.
     pub fn open(path: &Path) -> io::Result<Journal> {
-        let file = open(path).map_err(told("open the journal", path))?;
-        Ok(Journal { path: path.to_path_buf(), file })
+        let mut file = open(path).map_err(told("open the journal", path))?;
+        let mut first = [BEGIN];
+        // Nothing is read where it is empty.
+        file.read(&mut first).map_err(told("read", path))?;
+        match first {
+            [BEGIN] => Ok(Journal { path: path.to_path_buf(), file }),
+            _ => Err(io::Error::other(format!("{} is no journal: no line is appended to it", path.display()))),
+        }
     }
 
     /// What it has now. Bytes that are no text are of nobody who writes here.

@@ -16,8 +16,16 @@ use graftspindle::{Import, Number, Register};
 
 pub static IMPORT: Command = Command {
     name: "import",
-    options: &[Needed(&REGISTER), Needed(&ISSUERS), Needed(&MODE), Optional(&RECEIVED), Needed(&HGC), Optional(&WAIT), Optional(&JOURNAL),
-        Optional(&FORCE)],
+    options: &[
+        Needed(&REGISTER),
+        Needed(&ISSUERS),
+        Needed(&MODE),
+        Optional(&RECEIVED),
+        Needed(&HGC),
+        Optional(&WAIT),
+        Optional(&JOURNAL),
+        Optional(&FORCE),
+    ],
     words: &["HGV"],
     help: "\
 Imports the whitelist HGV into the register R and writes the confirmation for its sender to OUT. The moment of reception is
@@ -36,7 +44,8 @@ fn place_of_hgc(disk: &dyn Disk, given: &Arguments, hgv: &Path) -> Result<Place,
         return Err(Refusal::Fault(words.to_string()));
     }
     let hgc = Place::of_file(given.path(&HGC)?)?;
-    for other in [given.path(&REGISTER)?, given.path(&ISSUERS)?, hgv] {
+    let others = [given.path(&REGISTER)?, given.path(&ISSUERS)?, hgv];
+    for other in others.into_iter().chain(given.path_if_given(&JOURNAL)) {
         if other.canonicalize().is_ok_and(|other| other == hgc.path()) {
             return Err(Refusal::Fault(format!("--hgc would replace {}", other.display())));
         }

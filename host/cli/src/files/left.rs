@@ -72,8 +72,10 @@ fn found(disk: &dyn Disk, register: &Place) -> Result<Left, Fault> {
         let damaged = || stuck(register, &format!("{} is damaged", register.note().display()));
         return if on_its_way { Ok(Left::ToUndo(None)) } else { Err(damaged()) };
     };
-    let now = disk.read(register.path(), REGISTER_MOST + 1).map(|bytes| digest::of(&bytes));
-    let is_after = now.is_ok_and(|now| now == note.after);
+    let is_after = match disk.read(register.path(), REGISTER_MOST + 1) {
+        Err(fault) if fault.kind() != io::ErrorKind::NotFound => return Err(fault.into()),
+        now => now.is_ok_and(|bytes| digest::of(&bytes) == note.after),
+    };
     Ok(match is_after && (note.before != note.after || !on_its_way) {
         true => Left::ToFinish(note, writer),
         false if on_its_way => Left::ToUndo(Some(note)),

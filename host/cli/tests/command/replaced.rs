@@ -71,3 +71,17 @@ fn by_what_was_owed() {
     assert_not_replaced(&folder, "register recover --hgc @other_register @register");
     assert_not_replaced(&folder, "register recover --hgc @register @register");
 }
+
+/// No line is appended to what is no journal, and no HGC falls on the journal.
+#[test]
+fn by_a_journal() {
+    let folder = all_kinds();
+    let before = folder.all();
+    for kind in ["text", "ait", "register", "other_rows", "hgv", "hgc"] {
+        let done = graftspindle(&folder, &IMPORT.replace(" --mode", &format!(" --journal @{kind} --mode")));
+        assert!(done.status == 1 && done.fault.contains("is no journal"), "{kind}: {}", done.fault);
+        assert!(folder.all() == before, "{kind}");
+    }
+    let done = graftspindle(&folder, &IMPORT.replace(" --mode", " --journal @fresh --mode").replace("@hgc", "@fresh"));
+    assert!(done.status == 1 && done.fault.contains("--hgc would replace"), "{}", done.fault);
+}
