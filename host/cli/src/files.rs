@@ -7,12 +7,12 @@
 pub mod disk;
 pub mod fault;
 mod holder;
-pub mod journal;
 pub mod left;
 pub mod lock;
 pub mod note;
 pub mod place;
 pub mod private;
+pub mod replacing;
 mod words;
 
 use std::io;
@@ -53,8 +53,8 @@ impl<'a> Held<'a> {
     }
 
     /// Makes register and HGC new, or leaves both as they were.
-    pub fn replace(&self, register: &[u8], hgc: Option<journal::Hgc>) -> Result<(), Fault> {
-        journal::replace(self.disk, &self.place, register, hgc)
+    pub fn replace(&self, register: &[u8], hgc: Option<replacing::Hgc>) -> Result<(), Fault> {
+        replacing::replace(self.disk, &self.place, register, hgc)
     }
 }
 

@@ -1,5 +1,7 @@
 //! The command, and how it keeps its files: through stops at every step, faults, and two at once.
 
+#[path = "command/altered.rs"]
+mod altered;
 #[path = "command/answers.rs"]
 mod answers;
 #[path = "command/audit.rs"]

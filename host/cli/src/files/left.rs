@@ -9,9 +9,9 @@ use std::path::{Path, PathBuf};
 
 use super::disk::{Disk, Like};
 use super::fault::Fault;
-use super::journal::remove;
 use super::note::Note;
 use super::place::Place;
+use super::replacing::remove;
 use super::words::{foreign, owed, stuck};
 use crate::digest;
 use graftspindle::sizes::{HGC_MOST, REGISTER_MOST};

@@ -3,9 +3,9 @@
 use std::io;
 
 use super::fault::Fault;
-use super::journal::Hgc;
 use super::note::Note;
 use super::place::Place;
+use super::replacing::Hgc;
 
 /// The register is new, and this could not be done after it.
 pub fn counts(register: &Place, hgc: Option<Hgc>, fault: &io::Error) -> Fault {

@@ -1,10 +1,10 @@
 //! A register and its HGC replaced, stopped before each step, by a kill and by a loss of power; then the next start, stopped
 //! before each of its steps too; then one that runs to its end. Both are old or both are new, and nothing else is left.
 
+use crate::altered::{Altered, Becomes, Step};
 use crate::model::Model;
-use graftspindle_cli::files::disk::Like;
-use graftspindle_cli::files::{journal, left, Disk, Fault, Place};
-use std::io;
+use graftspindle_cli::files::{left, replacing, Disk, Fault, Place};
+use std::cell::Cell;
 use std::path::Path;
 
 const REGISTER: &str = "/roads/register";
@@ -22,7 +22,7 @@ struct Case {
 }
 
 fn replace(disk: &dyn Disk, case: Case) -> Result<(), Fault> {
-    journal::replace(disk, &Place::at(REGISTER), case.after, Some((&Place::at(case.hgc), NEW.1)))
+    replacing::replace(disk, &Place::at(REGISTER), case.after, Some((&Place::at(case.hgc), NEW.1)))
 }
 
 fn recover(disk: &dyn Disk) -> Result<left::Done, Fault> {
@@ -92,42 +92,45 @@ fn hgc_in_the_same_folder_and_in_another() {
 }
 
 /// A disk on which one sync of a folder, by its number, does nothing.
-struct Without<'a>(&'a Model, std::cell::Cell<usize>);
+fn without(disk: &Model, sync: usize) -> impl Disk + '_ {
+    let left = Cell::new(sync);
+    Altered(disk, move |step, _: &Path| match step {
+        Step::Sync if left.replace(left.get().wrapping_sub(1)) == 0 => Becomes::LeftOut,
+        _ => Becomes::Done,
+    })
+}
 
-impl Disk for Without<'_> {
-    fn read(&self, path: &Path, most: usize) -> io::Result<Vec<u8>> {
-        self.0.read(path, most)
-    }
-    fn exists(&self, path: &Path) -> io::Result<bool> {
-        self.0.exists(path)
-    }
-    fn write(&self, path: &Path, bytes: &[u8], like: Like) -> io::Result<()> {
-        self.0.write(path, bytes, like)
-    }
-    fn rename(&self, from: &Path, to: &Path) -> io::Result<()> {
-        self.0.rename(from, to)
-    }
-    fn remove(&self, path: &Path) -> io::Result<()> {
-        self.0.remove(path)
-    }
-    fn sync_folder(&self, path: &Path) -> io::Result<()> {
-        match self.1.replace(self.1.get().wrapping_sub(1)) {
-            0 => Ok(()),
-            _ => self.0.sync_folder(path),
+/// A disk on which the folder of the providers is missing.
+fn without_providers(disk: &Model) -> impl Disk + '_ {
+    Altered(disk, |_, path: &Path| if path.starts_with("/providers") { Becomes::Missing } else { Becomes::Done })
+}
+
+/// Stopped at each step, and the HGC's folder is away at the next start: as soon as it is back, both are old or both new,
+/// and an HGC that was owed is there.
+#[test]
+fn folder_away_at_the_next_start() {
+    let (start, mut owed) = (Model::with(&[(Path::new(REGISTER), OLD.0)]), 0);
+    for after in [NEW.0, OLD.0] {
+        let case = Case { hgc: "/providers/hgc", before: None, after };
+        for steps in 0..40 {
+            let disk = start.for_steps(steps);
+            let done = replace(&disk, case).is_ok();
+            for left in disk.after_a_stop() {
+                let whole = left.for_steps(ENOUGH);
+                recover(&whole).expect("the next start ends");
+                let new = is_new(&whole, case);
+                let later = left.for_steps(ENOUGH);
+                let away = recover(&without_providers(&later));
+                assert!(away.is_ok() || new, "only an import that counts owes an HGC");
+                owed += u32::from(away.is_err());
+                recover(&later).expect("the folder is back");
+                let names = later.names().into_iter().filter(|name| !name.starts_with("/providers")).count();
+                assert_eq!((later.bytes(Path::new(case.hgc)).is_some(), names), (new, 1), "{:?}", later.names());
+                assert!(new || !done);
+            }
         }
     }
-    fn owner(&self, path: &Path) -> io::Result<u32> {
-        self.0.owner(path)
-    }
-    fn read_owned(&self, path: &Path, most: usize) -> io::Result<(Vec<u8>, u32)> {
-        self.0.read_owned(path, most)
-    }
-    fn user(&self) -> io::Result<u32> {
-        self.0.user()
-    }
-    fn number_of(&self, folder: &Path) -> io::Result<u64> {
-        self.0.number_of(folder)
-    }
+    assert!(owed > 10, "{owed} owed");
 }
 
 /// Whether some loss of power leaves one old and one new, or the next start without an end, if that sync is left out.
@@ -136,7 +139,7 @@ fn breaks_without(sync: usize) -> bool {
     let (hgc, mut broken) = ("/providers/hgc", false);
     for steps in 0..40 {
         let disk = start.for_steps(steps);
-        let _ = replace(&Without(&disk, sync.into()), Case { hgc, before: None, after: NEW.0 });
+        let _ = replace(&without(&disk, sync), Case { hgc, before: None, after: NEW.0 });
         for left in disk.after_a_stop() {
             let last = left.for_steps(ENOUGH);
             let ended = recover(&last).is_ok();
