@@ -48,6 +48,8 @@ mod steps;
 mod streams;
 #[path = "command/together.rs"]
 mod together;
+#[path = "command/traced.rs"]
+mod traced;
 #[path = "command/users.rs"]
 mod users;
 #[path = "command/words.rs"]

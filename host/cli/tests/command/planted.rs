@@ -41,6 +41,16 @@ fn note_that_is_a_link() {
     assert!(both(&folder) == both(&ready()));
 }
 
+/// A lock that is a link: what it names is not made.
+#[test]
+fn lock_that_is_a_link() {
+    let folder = ready();
+    symlink(folder.path("missing"), folder.path("register.graftspindle-lock")).expect("a link");
+    let done = graftspindle(&folder, IMPORT);
+    assert!(done.status == 1 && done.fault.contains("no plain file"), "{}", done.fault);
+    assert!(both(&folder) == both(&ready()) && !exists(&folder, "missing"));
+}
+
 /// A note of neither the register's owner nor ours: what it names stays as it is.
 #[test]
 fn note_of_another_user() {

@@ -3,6 +3,7 @@
 use crate::common::*;
 use graftspindle_cli::files::{lock, Place};
 use std::fs::{self, Permissions};
+use std::io::{BufRead, BufReader};
 use std::os::unix::fs::{chown, MetadataExt, PermissionsExt};
 use std::os::unix::process::CommandExt;
 use std::process::{Command, Stdio};
@@ -103,12 +104,12 @@ fn import_that_waits_says_so() {
     let folder = ready();
     let held = lock::take(&Place::at(folder.path("register")), None).expect("it is free");
     let mut command = Command::new(program());
-    command.args(words(&folder, IMPORT)).stdout(Stdio::piped()).stderr(Stdio::piped());
-    let child = command.spawn().expect("it starts");
-    std::thread::sleep(Duration::from_millis(1500));
+    command.args(words(&folder, IMPORT)).stdout(Stdio::null()).stderr(Stdio::piped());
+    let mut child = command.spawn().expect("it starts");
+    let mut lines = BufReader::new(child.stderr.take().expect("piped")).lines();
+    let line = lines.next().expect("a line").expect("UTF-8");
+    assert!(line.contains(&format!("waiting for process {}", std::process::id())), "{line}");
     drop(held);
-    let done = ran(child.wait_with_output().expect("it ends"));
-    assert_eq!(done.status, 0);
-    assert!(done.fault.contains("waiting for process") && done.fault.lines().count() == 1, "{}", done.fault);
+    assert!(child.wait().expect("it ends").success() && lines.next().is_none());
     assert!(both(&folder) == imported());
 }
