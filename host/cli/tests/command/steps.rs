@@ -147,3 +147,24 @@ fn new_register_and_rows() {
         });
     }
 }
+
+/// A register that grows, and rows that are replaced: as before or as after, and the next run leaves nothing over.
+#[test]
+fn grown_register_and_replaced_rows() {
+    let grow = "register grow --slots 12 @register";
+    let old = ready().read("register");
+    at_each_step(Fate::Stop, grow, |folder, answer| {
+        assert_eq!(graftspindle(folder, STARTS[0]).status, 0);
+        let found = folder.read("register");
+        assert!(found == [old.clone(), vec![0; 4 * 128]].concat() || found == old && answer.is_err());
+        assert_eq!(folder.all().len(), 4, "left over: {:?}", folder.all());
+    });
+    let from_ait = format!("issuers from-ait --issuers @rows {AIT}");
+    let before = ready().read("rows");
+    at_each_step(Fate::Stop, &from_ait, |folder, answer| {
+        let found = folder.read("rows");
+        assert!(found.len() == 3 * 24 || found == before && answer.is_err());
+        assert_eq!(graftspindle(folder, &from_ait).status, 0);
+        assert_eq!((folder.read("rows").len(), folder.all().len()), (3 * 24, 4));
+    });
+}
