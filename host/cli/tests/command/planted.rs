@@ -9,6 +9,9 @@ use std::fs;
 use std::os::unix::fs::{chown, symlink, MetadataExt};
 use std::path::PathBuf;
 
+/// A user that nobody is.
+const OTHER: u32 = 65533;
+
 fn hgc_on_its_way(folder: &Folder) -> PathBuf {
     Place::at(folder.path("hgc")).pending_for(&Place::at(folder.path("register")))
 }
@@ -61,7 +64,7 @@ fn note_of_another_user() {
     let (out, hgc) = (folder.path("of_mine"), b"of the forger".to_vec());
     let note = Note { out, folder: number, before: now, after: now, hgc };
     folder.write("register.graftspindle-note", &note.bytes());
-    if chown(folder.path("register.graftspindle-note"), Some(65534), None).is_err() {
+    if chown(folder.path("register.graftspindle-note"), Some(OTHER), None).is_err() {
         println!("not root: no note of another user can be made");
         return;
     }
@@ -83,7 +86,7 @@ fn note_of_the_registers_owner() {
     let (out, hgc) = (folder.path("out"), folder.read("hgc"));
     let note = Note { out, folder: number, before: now, after: now, hgc: hgc.clone() };
     fs::write(&beside, note.bytes()).expect("it can be written");
-    if chown(&beside, Some(65534), None).and_then(|()| chown(&register, Some(65534), None)).is_err() {
+    if chown(&beside, Some(OTHER), None).and_then(|()| chown(&register, Some(OTHER), None)).is_err() {
         println!("not root: no note of another user can be made");
         return;
     }
@@ -92,7 +95,7 @@ fn note_of_the_registers_owner() {
         assert!(done.fault.contains("is still owed") && !exists(&folder, "out"), "{}", done.fault);
     }
     let pending = Place::at(folder.path("out")).pending_for(&Place::at(&register));
-    fs::write(&pending, b"").and_then(|()| chown(&pending, Some(65534), None)).expect("we are root");
+    fs::write(&pending, b"").and_then(|()| chown(&pending, Some(OTHER), None)).expect("we are root");
     assert_eq!(graftspindle(&folder, "register show @register").fault, "");
     assert_eq!(folder.read("out"), hgc);
 }

@@ -9,7 +9,8 @@ use std::os::unix::process::CommandExt;
 use std::process::{Command, Stdio};
 use std::time::{Duration, Instant};
 
-const NOBODY: u32 = 65534;
+/// A user that nobody is.
+const NOBODY: u32 = 65533;
 
 fn as_nobody(folder: &Folder, line: &str) -> Ran {
     let mut command = Command::new(program());
