@@ -31,6 +31,7 @@ pub type Wait = Option<Duration>;
 pub struct Held<'a> {
     disk: &'a dyn Disk,
     place: Place,
+    recovered: left::Done,
     _lock: Lock,
 }
 
@@ -38,8 +39,13 @@ impl<'a> Held<'a> {
     /// Waits while another holds it, so long at the most where a time is given.
     pub fn take(disk: &'a dyn Disk, place: Place, wait: Wait) -> Result<Held<'a>, Fault> {
         let lock = lock::take(&place, wait)?;
-        left::recover(disk, &place)?;
-        Ok(Held { disk, place, _lock: lock })
+        let recovered = left::recover(disk, &place)?;
+        Ok(Held { disk, place, recovered, _lock: lock })
+    }
+
+    /// Whether the HGC of an earlier import was written to this place just now, by taking the register.
+    pub fn has_written(&self, out: &Place) -> bool {
+        matches!(&self.recovered, left::Done::Written(written) if written == out.path())
     }
 
     /// The register's bytes.

@@ -54,6 +54,14 @@ fn place_of_hgc(disk: &dyn Disk, given: &Arguments, hgv: &Path) -> Result<Place,
     Ok(hgc)
 }
 
+/// Nobody can have fetched it yet.
+fn not_fetched(out: &Place) -> Refusal {
+    let name = out.path().display();
+    Refusal::Left(format!(
+        "not begun: the HGC of an earlier import was written to {name} only now; fetch it, then go on"
+    ))
+}
+
 /// What can be said of a refusal.
 fn explained(number: Number, import: &Import, names: &Names, register: &[u8]) -> Refusal {
     let (hgv, rows) = (names.hgv, names.rows);
@@ -89,6 +97,9 @@ fn import<'a>(disk: &'a dyn Disk, given: &Arguments, entry: &mut Entry<'a>) -> A
     let (rows, hgv) = (input::read(disk, rows, ROWS_MOST * ROW)?, input::read(disk, hgv, HGV_MOST)?);
     entry.hgv(&hgv.bytes);
     let held = Held::take(disk, place.clone(), given.wait()?)?;
+    if held.has_written(&hgc_place) && !given.is_given(&FORCE) {
+        return Err(not_fetched(&hgc_place));
+    }
     // Only now: imports that waited for each other are received in the order in which they are imported.
     let reception = given.text_if_given(&RECEIVED).map_or_else(clock::now, String::into_bytes);
     entry.say("reception", texts::shown(&reception));

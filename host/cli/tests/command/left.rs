@@ -160,3 +160,23 @@ fn nothing_is_left_at_the_first_place() {
     assert_eq!(folder.read_if_there("elsewhere"), imported().1);
     assert_eq!(folder.all().len(), 5, "left over: {:?}", folder.all());
 }
+
+/// The HGC of a stopped import was written just now, to the very place that the next import names: nobody can have fetched
+/// it yet, so it is not replaced at once.
+#[test]
+fn hgc_that_nobody_has_fetched() {
+    let (new, seen) = (imported(), std::cell::Cell::new(0));
+    at_each_step(Fate::Stop, IMPORT, |folder, _| {
+        if folder.read("register") != new.0 || !exists(folder, "register.graftspindle-note") {
+            return;
+        }
+        let next = IMPORT.replace("20250310050000", "20250310060000");
+        let done = graftspindle(folder, &next);
+        assert!(done.status == 3 && done.fault.contains("was written to"), "{}", done.fault);
+        assert!(both(folder) == new);
+        assert_goes_on(folder, &next);
+        assert_ne!(folder.read_if_there("hgc"), new.1);
+        seen.set(seen.get() + 1);
+    });
+    assert!(seen.get() > 1);
+}
