@@ -18,6 +18,7 @@ mod words;
 use std::io;
 use std::time::Duration;
 
+use crate::say::warn;
 pub use disk::{Disk, Real};
 pub use fault::Fault;
 use graftspindle::sizes::REGISTER_MOST;
@@ -39,7 +40,7 @@ impl<'a> Held<'a> {
     /// Waits while another holds it, so long at the most where a time is given.
     pub fn take(disk: &'a dyn Disk, place: Place, wait: Wait) -> Result<Held<'a>, Fault> {
         let lock = lock::take(&place, wait)?;
-        let recovered = left::recover(disk, &place)?;
+        let recovered = recover_and_say(disk, &place)?;
         Ok(Held { disk, place, recovered, _lock: lock })
     }
 
@@ -64,6 +65,16 @@ impl<'a> Held<'a> {
     }
 }
 
+/// An import that was stopped is known to nobody: that it counts is said by who finds it.
+fn recover_and_say(disk: &dyn Disk, place: &Place) -> Result<left::Done, Fault> {
+    let done = left::recover(disk, place)?;
+    if let left::Done::Written(out) = &done {
+        let (name, out) = (place.path().display(), out.display());
+        warn(&format!("an import of {name} was stopped before its end; it counts, and its HGC is {out}"));
+    }
+    Ok(done)
+}
+
 /// Finishes or undoes what a stop left, for one who only reads. The register is whole at any moment, so that he needs
 /// no lock: where another holds it, that other is at work and nothing was left.
 pub fn tidy(disk: &dyn Disk, place: &Place) -> Result<(), Fault> {
@@ -71,7 +82,7 @@ pub fn tidy(disk: &dyn Disk, place: &Place) -> Result<(), Fault> {
         return Ok(());
     }
     match lock::try_take(place)? {
-        Some(_lock) => left::recover(disk, place).map(|_| ()),
+        Some(_lock) => recover_and_say(disk, place).map(|_| ()),
         None => Ok(()),
     }
 }

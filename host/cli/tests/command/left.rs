@@ -70,6 +70,8 @@ fn folder_that_is_away() {
         assert_eq!(done.status, 0, "the register itself can be read");
         assert!(done.fault.contains("out/hgc") && done.fault.contains("is still owed"), "{}", done.fault);
         fs::rename(folder.path("away"), folder.path("out")).expect("it can be moved");
+        let done = graftspindle(folder, SHOW);
+        assert!(done.fault.contains("it counts, and its HGC is ") && done.fault.lines().count() == 1, "{}", done.fault);
         assert_eq!(graftspindle(folder, SHOW).fault, "");
         assert_eq!(folder.read_if_there("out/hgc"), hgc);
         assert_goes_on(folder, IMPORT);

@@ -96,7 +96,7 @@ fn note_of_the_registers_owner() {
     }
     let pending = Place::at(folder.path("out")).pending_for(&Place::at(&register));
     fs::write(&pending, b"").and_then(|()| chown(&pending, Some(OTHER), None)).expect("we are root");
-    assert_eq!(graftspindle(&folder, "register show @register").fault, "");
+    assert_eq!(graftspindle(&folder, "register show @register").status, 0);
     assert_eq!(folder.read("out"), hgc);
 }
 
