@@ -6,6 +6,9 @@ const LINE: usize = 106;
 const FOOTER: usize = 64;
 const LF: u8 = 10;
 
+/// No longer table is read: AP-3.5 has no limit, and this is a thousand lines for each row that an import can take.
+pub const MOST: usize = HEADER + 64_000 * LINE + FOOTER;
+
 /// AP-3.5 says 502401 of the file's name and 500001 of the header.
 const VERSIONS: [&[u8]; 2] = [b"500001", b"502401"];
 

@@ -2,47 +2,79 @@
 
 pub mod arguments;
 pub mod clock;
+mod completions;
 mod demo;
+mod entry;
+mod explain;
 mod help;
 mod import;
+mod input;
 mod issuers;
+pub mod json;
+mod kinds;
 mod lookup;
+mod manual;
+pub mod options;
 mod read_back;
 mod refusal;
 mod register;
 mod texts;
+mod told;
+mod totals;
 mod update;
 
 use std::ffi::OsString;
 use std::path::Path;
 
 use crate::files::{self, Disk, Place};
+pub use crate::say::warn;
 use arguments::Arguments;
+use graftspindle::sizes::REGISTER_MOST;
 use graftspindle::{Mode, Register};
+use options::{Opt, Use};
 pub use refusal::Refusal;
+pub use told::{output, Told};
 
 /// What a command has to say, or why it refuses.
-pub type Answer = Result<String, Refusal>;
+pub type Answer = Result<Told, Refusal>;
 
+/// A command, with all that parsing and help know of it.
 pub struct Command {
+    /// One word or two.
     pub name: &'static str,
-    /// Each takes a value.
-    pub options: &'static [&'static str],
-    pub usage: &'static str,
+    /// In the order of the usage.
+    pub options: &'static [Use],
+    /// The words behind the options; one in brackets may be missing.
+    pub words: &'static [&'static str],
+    /// What it does, in lines.
     pub help: &'static str,
+    /// Does it.
     pub run: fn(&dyn Disk, &Arguments) -> Answer,
 }
 
-const COMMANDS: [&Command; 9] = [
+impl Command {
+    /// All its options, those of every command among them.
+    pub fn takes(&self) -> impl Iterator<Item = &'static Opt> {
+        self.options.iter().map(|option| option.option()).chain([&options::JSON])
+    }
+}
+
+static COMMANDS: [&Command; 15] = [
     &import::IMPORT,
     &lookup::PAN,
     &lookup::PLATE,
     &read_back::READ_BACK,
     &update::UPDATE,
-    &register::NEW,
-    &register::SHOW,
+    &register::new::NEW,
+    &register::show::SHOW,
+    &register::list::LIST,
+    &register::check::CHECK,
+    &register::grow::GROW,
+    &register::recover::RECOVER,
     &issuers::FROM_AIT,
     &demo::DEMO,
+    &manual::MANUAL,
+    &completions::COMPLETIONS,
 ];
 
 /// The command whose words stand in front, and what follows them.
@@ -60,14 +92,20 @@ pub fn run(disk: &dyn Disk, given: &[OsString]) -> Answer {
     let Some((command, rest)) = named(given) else {
         return help::without_command(given);
     };
-    if rest.iter().any(|word| word == "--help") {
+    let options = rest.iter().take_while(|word| *word != "--");
+    if options.clone().any(help::is_asked) {
         return Ok(help::of(command));
     }
     (command.run)(disk, &Arguments::parse(command, rest)?)
 }
 
+/// Whether `--json` is among the options.
+pub fn wants_json(given: &[OsString]) -> bool {
+    given.iter().take_while(|word| *word != "--").any(|word| word == "--json")
+}
+
 fn mode(given: &Arguments) -> Result<Mode, Refusal> {
-    match given.text("mode")? {
+    match given.text(&options::MODE)? {
         word if word == "incremental" => Ok(Mode::Incremental),
         word if word == "full" => Ok(Mode::Full),
         other => Err(Refusal::Fault(format!("--mode is incremental or full, not {other}"))),
@@ -78,7 +116,12 @@ fn mode(given: &Arguments) -> Result<Mode, Refusal> {
 fn look(disk: &dyn Disk, path: &Path) -> Result<Register, Refusal> {
     let place = Place::of_known(path)?;
     if let Err(fault) = files::tidy(disk, &place) {
-        eprintln!("graftspindle: what a stopped import left is still there: {fault}");
+        warn(&format!("what a stopped import left is still there: {fault}"));
     }
-    Ok(Register::from_bytes(disk.read(place.path())?))
+    Ok(Register::from_bytes(disk.read(place.path(), REGISTER_MOST + 1)?))
+}
+
+/// The number with these words beside its sentence.
+fn beside(words: impl std::fmt::Display) -> impl FnOnce(graftspindle::Number) -> Refusal {
+    move |number| Refusal::Number(number, words.to_string())
 }

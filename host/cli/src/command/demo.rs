@@ -1,18 +1,21 @@
 //! `demo`: three providers send whitelists, and one of them follows what is held for him.
 
 use std::ffi::OsString;
-use std::fs;
+use std::fs::{self, OpenOptions};
+use std::io::Write;
 use std::path::{Path, PathBuf};
 
 use super::arguments::Arguments;
-use super::{look, texts, Answer, Command, Refusal};
+use super::{look, texts, Answer, Command, Refusal, Told};
+use crate::files::disk::told;
+use crate::files::private::Private;
 use crate::files::Disk;
 use graftspindle::Register;
 
-pub const DEMO: Command = Command {
+pub static DEMO: Command = Command {
     name: "demo",
     options: &[],
-    usage: "demo [FOLDER]",
+    words: &["[FOLDER]"],
     help: "\
 Makes a small register, imports whitelists of three providers into it, applies the confirmations to one provider's copy and
 compares the copy with the records held for him. Works in FOLDER and leaves its files there, or in a folder that goes again.
@@ -76,12 +79,12 @@ fn words(command: &str, folder: &Path) -> Vec<OsString> {
     command.split(' ').map(word).collect()
 }
 
-fn shown(disk: &dyn Disk, command: &str, folder: &Path) -> Answer {
-    let answer = super::run(disk, &words(command, folder))?.replace(&format!("{}/", folder.display()), "");
+fn shown(disk: &dyn Disk, command: &str, folder: &Path) -> Result<String, Refusal> {
+    let answer = super::run(disk, &words(command, folder))?.text.replace(&format!("{}/", folder.display()), "");
     Ok(format!("$ graftspindle {}\n{answer}", command.replace(" /", " ")))
 }
 
-fn tell(disk: &dyn Disk, folder: &Path) -> Answer {
+fn tell(disk: &dyn Disk, folder: &Path) -> Result<String, Refusal> {
     let mut told = String::new();
     for (heading, commands) in STORY {
         let shown: Result<String, Refusal> = commands.iter().map(|command| shown(disk, command, folder)).collect();
@@ -94,7 +97,7 @@ fn held_for<'a>(actor: &'a str, register: &'a Register) -> Vec<&'a [u8]> {
     register.records().filter(|slot| texts::actor(slot) == actor).collect()
 }
 
-fn compare(disk: &dyn Disk, folder: &Path) -> Answer {
+fn compare(disk: &dyn Disk, folder: &Path) -> Result<String, Refusal> {
     let (register, copy) = (look(disk, &folder.join("register"))?, look(disk, &folder.join("copy"))?);
     let (held, own) = (held_for("900123", &register), copy.records().collect::<Vec<_>>());
     if held != own {
@@ -107,9 +110,11 @@ fn compare(disk: &dyn Disk, folder: &Path) -> Answer {
 
 fn play(disk: &dyn Disk, folder: &Path) -> Answer {
     for (name, bytes) in FILES {
-        fs::write(folder.join(name), bytes)?;
+        let path = folder.join(name);
+        let made = OpenOptions::new().write(true).create_new(true).open(&path);
+        made.and_then(|mut file| file.write_all(bytes)).map_err(told("make", &path))?;
     }
-    Ok(tell(disk, folder)? + &compare(disk, folder)?)
+    Ok(Told::new(tell(disk, folder)? + &compare(disk, folder)?))
 }
 
 /// Without links, as the commands name files.
@@ -122,9 +127,5 @@ fn run(disk: &dyn Disk, given: &Arguments) -> Answer {
     if let Some(folder) = given.rest_if_given()? {
         return play(disk, &made(folder.into())?);
     }
-    let name = format!("graftspindle-demo-{}", std::process::id());
-    let folder = made(std::env::temp_dir().join(name))?;
-    let told = play(disk, &folder);
-    fs::remove_dir_all(&folder)?;
-    told
+    play(disk, Private::new()?.path())
 }

@@ -3,46 +3,131 @@
 use std::path::Path;
 
 use super::arguments::Arguments;
-use super::{clock, mode, Answer, Command, Refusal};
-use crate::files::{Disk, Held, Place};
-use graftspindle::{Import, Register};
+use super::entry::{self, Entry};
+use super::input::Input;
+use super::kinds::{may_replace, Kind};
+use super::options::Use::{Needed, Optional};
+use super::options::{FORCE, HGC, ISSUERS, JOURNAL, MODE, RECEIVED, REGISTER, WAIT};
+use super::totals::Totals;
+use super::{clock, explain, input, mode, texts, Answer, Command, Refusal, Told};
+use crate::files::{Disk, Fault, Held, Place};
+use graftspindle::sizes::{HGV_MOST, ROW, ROWS_MOST};
+use graftspindle::{Import, Number, Register};
 
-pub const IMPORT: Command = Command {
+pub static IMPORT: Command = Command {
     name: "import",
-    options: &["register", "issuers", "mode", "received", "hgc"],
-    usage: "import --register R --issuers ROWS --mode incremental|full [--received YYYYMMDDhhmmss] --hgc OUT HGV",
+    options: &[
+        Needed(&REGISTER),
+        Needed(&ISSUERS),
+        Needed(&MODE),
+        Optional(&RECEIVED),
+        Needed(&HGC),
+        Optional(&WAIT),
+        Optional(&JOURNAL),
+        Optional(&FORCE),
+    ],
+    words: &["HGV"],
     help: "\
 Imports the whitelist HGV into the register R and writes the confirmation for its sender to OUT. The moment of reception is
 UTC, and the present one unless it is given. R and OUT stand or fall together: killed at any moment, after the next command
-on R both are new or both are as they were. A file that is at OUT is replaced. An import waits while another one of R runs.
+on R both are new or both are as they were. An HGC that is at OUT is replaced; a file of another kind is not. An import waits
+while another one of R runs. HGV or ROWS may be -, standard input. With a journal the import says where the list was imported
+before, or follows another list than the last one of its sender.
 ",
     run,
 };
 
 /// The HGC must not fall on what it is made from.
-fn place_of_hgc(given: &Arguments, hgv: &Path) -> Result<Place, Refusal> {
-    let hgc = Place::of_file(given.path("hgc")?)?;
-    for other in [given.path("register")?, given.path("issuers")?, hgv] {
+fn place_of_hgc(disk: &dyn Disk, given: &Arguments, hgv: &Path) -> Result<Place, Refusal> {
+    if input::is_standard(given.path(&HGC)?.as_os_str()) {
+        let words = "--hgc - cannot be: register and HGC stand or fall together, and standard output can do neither";
+        return Err(Refusal::Fault(words.to_string()));
+    }
+    let hgc = Place::of_file(given.path(&HGC)?)?;
+    let others = [given.path(&REGISTER)?, given.path(&ISSUERS)?, hgv];
+    for other in others.into_iter().chain(given.path_if_given(&JOURNAL)) {
         if other.canonicalize().is_ok_and(|other| other == hgc.path()) {
             return Err(Refusal::Fault(format!("--hgc would replace {}", other.display())));
         }
     }
+    may_replace(disk, given, &hgc, Kind::Hgc)?;
     Ok(hgc)
 }
 
+/// Nobody can have fetched it yet.
+fn not_fetched(out: &Place) -> Refusal {
+    let name = out.path().display();
+    Refusal::Left(format!(
+        "not begun: the HGC of an earlier import was written to {name} only now; fetch it, then go on"
+    ))
+}
+
+/// What can be said of a refusal.
+fn explained(number: Number, import: &Import, names: &Names, register: &[u8]) -> Refusal {
+    let (hgv, rows) = (names.hgv, names.rows);
+    match number {
+        Number::Time => Refusal::Number(number, texts::shown(import.reception)),
+        Number::Order => Refusal::Number(number, names.register.to_string()),
+        Number::Rows => Refusal::Number(number, rows.name.clone()),
+        Number::Parties => explain::of_parties(hgv, rows),
+        Number::Slots => explain::of_slots(names.register, register, |largest| largest.import(import).map(|_| ())),
+        other => explain::of_hgv(other, hgv),
+    }
+}
+
+/// What the files are called.
+struct Names<'a> {
+    register: &'a str,
+    rows: &'a Input,
+    hgv: &'a Input,
+}
+
 fn run(disk: &dyn Disk, given: &Arguments) -> Answer {
+    entry::kept(given, "import", |entry| import(disk, given, entry))
+}
+
+fn import<'a>(disk: &'a dyn Disk, given: &Arguments, entry: &mut Entry<'a>) -> Answer {
     let [hgv] = given.rest()?;
     let mode = mode(given)?;
-    let place = Place::of_known(given.path("register")?)?;
-    let hgc_place = place_of_hgc(given, Path::new(hgv))?;
-    let (rows, hgv) = (disk.read(given.path("issuers")?)?, disk.read(Path::new(hgv))?);
-    let held = Held::take(disk, place)?;
-    let mut register = Register::from_bytes(held.read()?);
+    entry.say("mode", given.text(&MODE)?);
+    let place = Place::of_known(given.path(&REGISTER)?)?;
+    let hgc_place = place_of_hgc(disk, given, Path::new(hgv))?;
+    let rows = given.path(&ISSUERS)?.as_os_str();
+    input::at_most_one(&[rows, hgv])?;
+    let (rows, hgv) = (input::read(disk, rows, ROWS_MOST * ROW)?, input::read(disk, hgv, HGV_MOST)?);
+    entry.hgv(&hgv.bytes);
+    let held = Held::take(disk, place.clone(), given.wait()?)?;
+    if held.has_written(&hgc_place) && !given.is_given(&FORCE) {
+        return Err(not_fetched(&hgc_place));
+    }
     // Only now: imports that waited for each other are received in the order in which they are imported.
-    let reception = given.text_if_given("received").map_or_else(clock::now, String::into_bytes);
-    let import = Import { mode, reception: &reception, rows: &rows, hgv: &hgv };
-    let (counts, hgc) = register.import(&import)?;
-    held.replace(register.bytes(), Some((&hgc_place, &hgc)))?;
+    let reception = given.text_if_given(&RECEIVED).map_or_else(clock::now, String::into_bytes);
+    entry.say("reception", texts::shown(&reception));
+    let import = Import { mode, reception: &reception, rows: &rows.bytes, hgv: &hgv.bytes };
+    let names = Names { register: &place.path().display().to_string(), rows: &rows, hgv: &hgv };
+    let answer = carry_out(&held, &import, &names, &hgc_place, entry);
+    entry.hold(held);
+    answer
+}
+
+fn carry_out(held: &Held, import: &Import, names: &Names, out: &Place, entry: &mut Entry) -> Answer {
+    let before = held.read()?;
+    entry.begin(names.register, &before);
+    let mut register = Register::from_bytes(before.clone());
+    let done = register.import(import);
+    let (counts, hgc) = done.map_err(|number| explained(number, import, names, &before))?;
+    entry.compare()?;
+    let replaced = held.replace(register.bytes(), Some((out, &hgc)));
     let (taken, rejected) = (counts.taken, counts.rejected);
-    Ok(format!("taken {taken}, rejected {rejected}; the HGC is {}\n", hgc_place.path().display()))
+    if matches!(replaced, Ok(()) | Err(Fault::Counts(_))) {
+        entry.say("taken", taken);
+        entry.say("rejected", rejected);
+        entry.digest("hgc", &hgc);
+        entry.digest("after", register.bytes());
+    }
+    replaced?;
+    let (totals, out) = (Totals::of(&names.hgv.bytes, &hgc), out.path().display());
+    let text = format!("taken {taken}, rejected {rejected}; the HGC is {out}\n{}", totals.text());
+    let told = Told::new(text).with("taken", taken).with("rejected", rejected).with("reasons", totals.json());
+    Ok(told.with("hgc", out.to_string()))
 }

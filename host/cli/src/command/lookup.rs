@@ -1,22 +1,26 @@
 //! `lookup pan` and `lookup plate`.
 
-use super::arguments::Arguments;
-use super::{clock, look, texts, Answer, Command};
-use crate::files::Disk;
-use graftspindle::Register;
+use std::path::Path;
 
-pub const PAN: Command = Command {
+use super::arguments::Arguments;
+use super::options::Use::{Needed, Optional};
+use super::options::{AT, REGISTER};
+use super::{clock, look, texts, Answer, Command, Refusal, Told};
+use crate::files::Disk;
+use graftspindle::{Number, Register};
+
+pub static PAN: Command = Command {
     name: "lookup pan",
-    options: &["register"],
-    usage: "lookup pan --register R PAN",
+    options: &[Needed(&REGISTER)],
+    words: &["PAN"],
     help: "Shows the slot of the register R that holds the PAN, active or ended.\n",
     run: by_pan,
 };
 
-pub const PLATE: Command = Command {
+pub static PLATE: Command = Command {
     name: "lookup plate",
-    options: &["register", "at"],
-    usage: "lookup plate --register R [--at YYYYMMDDhhmmss] PLATE NATIONALITY",
+    options: &[Needed(&REGISTER), Optional(&AT)],
+    words: &["PLATE", "NATIONALITY"],
     help: "\
 Shows the slot of the register R whose record has the plate and the nationality and is active at the time, which is UTC and
 the present one unless it is given. Letter case counts.
@@ -25,27 +29,42 @@ the present one unless it is given. Letter case counts.
 };
 
 /// The slot's place, what people ask for, and its bytes.
-fn shown(register: &Register, slot: &[u8]) -> String {
+fn shown(register: &Register, slot: &[u8]) -> Told {
     let place = register.slots().position(|other| std::ptr::eq(other, slot)).unwrap_or_default();
     let (actor, pan) = (texts::actor(slot), texts::pan(slot));
     let (plate, nationality, end) = (texts::plate(slot), texts::nationality(slot), texts::end(slot));
     let text = texts::shown(&slot[..slot.len() - 1]);
-    format!("slot {place}: actor {actor}, PAN {pan}, plate {plate} {nationality}, end {end}\n{text}\n")
+    let line = format!("slot {place}: actor {actor}, PAN {pan}, plate {plate} {nationality}, end {end}\n{text}\n");
+    let told = Told::new(line).with("slot", place).with("actor", actor).with("pan", pan);
+    told.with("plate", plate).with("nationality", nationality).with("end", end).with("text", text)
+}
+
+/// Which of the things asked for a number is about.
+fn about(number: Number, path: &Path, time: &[u8], key: &str) -> Refusal {
+    let name = path.display();
+    let words = match number {
+        Number::Order => name.to_string(),
+        Number::Time => texts::shown(time),
+        Number::Key => key.to_string(),
+        _ => format!("{key} in {name}"),
+    };
+    Refusal::Number(number, words)
 }
 
 fn by_pan(disk: &dyn Disk, given: &Arguments) -> Answer {
-    let [pan] = given.rest()?;
-    let register = look(disk, given.path("register")?)?;
-    let slot = register.by_pan(&texts::field(&pan.to_string_lossy(), 19)?)?;
+    let ([pan], path) = (given.rest()?, given.path(&REGISTER)?);
+    let (register, pan) = (look(disk, path)?, pan.to_string_lossy());
+    let slot = register.by_pan(&texts::field(&pan, 19)?);
+    let slot = slot.map_err(|number| about(number, path, b"", &format!("PAN {pan}")))?;
     Ok(shown(&register, slot))
 }
 
 fn by_plate(disk: &dyn Disk, given: &Arguments) -> Answer {
-    let [plate, nationality] = given.rest()?;
-    let register = look(disk, given.path("register")?)?;
-    let time = given.text_if_given("at").map_or_else(clock::now, String::into_bytes);
-    let plate = texts::field(&plate.to_string_lossy(), 10)?;
-    let nationality = texts::field(&nationality.to_string_lossy(), 3)?;
-    let slot = register.by_plate(&plate, &nationality, &time)?;
+    let ([plate, nationality], path) = (given.rest()?, given.path(&REGISTER)?);
+    let register = look(disk, path)?;
+    let time = given.text_if_given(&AT).map_or_else(clock::now, String::into_bytes);
+    let (plate, nationality) = (plate.to_string_lossy(), nationality.to_string_lossy());
+    let slot = register.by_plate(&texts::field(&plate, 10)?, &texts::field(&nationality, 3)?, &time);
+    let slot = slot.map_err(|number| about(number, path, &time, &format!("plate {plate} {nationality}")))?;
     Ok(shown(&register, slot))
 }

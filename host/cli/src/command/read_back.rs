@@ -1,17 +1,18 @@
 //! `read-back`: what an HGC says of each line of its HGV.
 
-use std::path::Path;
-
 use super::arguments::Arguments;
-use super::{texts, Answer, Command};
+use super::json::Json;
+use super::options::Use::Optional;
+use super::options::REJECTED;
+use super::{explain, input, texts, Answer, Command, Told};
 use crate::files::Disk;
 use graftspindle::sizes::{HEADER, LINE};
 use graftspindle::Verdict;
 
-pub const READ_BACK: Command = Command {
+pub static READ_BACK: Command = Command {
     name: "read-back",
-    options: &[],
-    usage: "read-back HGV HGC",
+    options: &[Optional(&REJECTED)],
+    words: &["HGV", "HGC"],
     help: "Says of each line of the HGV, by its number, PAN and plate, what its confirmation HGC answers.\n",
     run,
 };
@@ -26,11 +27,26 @@ fn shown(number: usize, line: &[u8], verdict: Verdict) -> String {
     format!("{number:>5}  {pan:<19}  {plate:<10}  {verdict}\n")
 }
 
+fn fields(number: usize, line: &[u8], verdict: Verdict) -> Json {
+    let reason = match verdict {
+        Verdict::Taken => Json::Nothing,
+        Verdict::Rejected(reason) => reason.number().into(),
+    };
+    let (pan, plate) = (texts::pan(line), texts::plate(line));
+    Json::Object(vec![("line", number.into()), ("pan", pan.into()), ("plate", plate.into()), ("reason", reason)])
+}
+
 fn run(disk: &dyn Disk, given: &Arguments) -> Answer {
     let [hgv, hgc] = given.rest()?;
-    let (hgv, hgc) = (disk.read(Path::new(hgv))?, disk.read(Path::new(hgc))?);
-    let (counts, verdicts) = graftspindle::read_back(&hgv, &hgc)?;
-    let told = lines(&hgv).zip(&verdicts).enumerate();
-    let told: String = told.map(|(i, (line, &verdict))| shown(i + 1, line, verdict)).collect();
-    Ok(format!("{told}taken {}, rejected {}\n", counts.taken, counts.rejected))
+    let (hgv, hgc) = input::pair(disk, hgv, hgc)?;
+    let read = graftspindle::read_back(&hgv.bytes, &hgc.bytes);
+    let (counts, verdicts) = read.map_err(|number| explain::of_pair(number, &hgv, &hgc))?;
+    let asked = |verdict: Verdict| verdict != Verdict::Taken || !given.is_given(&REJECTED);
+    let lines = (1..).zip(lines(&hgv.bytes)).zip(verdicts).filter(|&(_, verdict)| asked(verdict));
+    let lines: Vec<_> = lines.map(|((number, line), verdict)| (number, line, verdict)).collect();
+    let text: String = lines.iter().map(|&(number, line, verdict)| shown(number, line, verdict)).collect();
+    let list = lines.iter().map(|&(number, line, verdict)| fields(number, line, verdict)).collect();
+    let told = Told::new(format!("{text}taken {}, rejected {}\n", counts.taken, counts.rejected));
+    let told = told.with("taken", counts.taken).with("rejected", counts.rejected);
+    Ok(told.with("lines", Json::List(list)))
 }

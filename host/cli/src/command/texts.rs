@@ -37,6 +37,48 @@ pub fn nationality(line: &[u8]) -> String {
     positions(line, 43, 45)
 }
 
+pub fn context_mark(slot: &[u8]) -> String {
+    positions(slot, 50, 61)
+}
+
+pub fn obe(slot: &[u8]) -> String {
+    positions(slot, 62, 79)
+}
+
+/// Of an HGV's header, as far as it reaches.
+fn of_header(hgv: &[u8], from: usize, to: usize) -> String {
+    shown(hgv.get(from - 1..to).unwrap_or_default())
+}
+
+pub fn sender(hgv: &[u8]) -> String {
+    of_header(hgv, 2, 7)
+}
+
+pub fn receiver(hgv: &[u8]) -> String {
+    of_header(hgv, 8, 13)
+}
+
+pub fn list(hgv: &[u8]) -> String {
+    of_header(hgv, 14, 32)
+}
+
+pub fn previous(hgv: &[u8]) -> String {
+    of_header(hgv, 33, 51)
+}
+
+/// Without the zeros in front.
+pub fn count(hgv: &[u8]) -> String {
+    let digits = of_header(hgv, 66, 80);
+    match digits.trim_start_matches('0') {
+        "" => "0".to_string(),
+        rest => rest.to_string(),
+    }
+}
+
+pub fn version(hgv: &[u8]) -> String {
+    of_header(hgv, 95, 100)
+}
+
 pub fn end(slot: &[u8]) -> String {
     positions(slot, 101, 114)
 }

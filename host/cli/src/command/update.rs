@@ -1,16 +1,18 @@
 //! `update`: a provider's copy after an HGV of his and its HGC.
 
-use std::path::Path;
-
 use super::arguments::Arguments;
-use super::{mode, Answer, Command};
-use crate::files::{Disk, Held, Place};
-use graftspindle::Register;
+use super::entry::{self, Entry};
+use super::options::Use::{Needed, Optional};
+use super::options::{COPY, JOURNAL, MODE, WAIT};
+use super::totals::Totals;
+use super::{explain, input, mode, Answer, Command, Refusal, Told};
+use crate::files::{Disk, Fault, Held, Place};
+use graftspindle::{Counts, Number, Register};
 
-pub const UPDATE: Command = Command {
+pub static UPDATE: Command = Command {
     name: "update",
-    options: &["copy", "mode"],
-    usage: "update --copy C --mode incremental|full HGV HGC",
+    options: &[Needed(&COPY), Needed(&MODE), Optional(&WAIT), Optional(&JOURNAL)],
+    words: &["HGV", "HGC"],
     help: "\
 Applies the lines of the HGV that its confirmation HGC says were taken to the provider's copy C. The mode is the one that
 the list was imported in. Killed at any moment, C is as before or as after.
@@ -19,12 +21,40 @@ the list was imported in. Killed at any moment, C is as before or as after.
 };
 
 fn run(disk: &dyn Disk, given: &Arguments) -> Answer {
+    entry::kept(given, "update", |entry| update(disk, given, entry))
+}
+
+fn update<'a>(disk: &'a dyn Disk, given: &Arguments, entry: &mut Entry<'a>) -> Answer {
     let [hgv, hgc] = given.rest()?;
     let mode = mode(given)?;
-    let (hgv, hgc) = (disk.read(Path::new(hgv))?, disk.read(Path::new(hgc))?);
-    let held = Held::take(disk, Place::of_known(given.path("copy")?)?)?;
-    let mut copy = Register::from_bytes(held.read()?);
-    let counts = copy.update(mode, &hgv, &hgc)?;
-    held.replace(copy.bytes(), None)?;
-    Ok(format!("taken {}, rejected {}\n", counts.taken, counts.rejected))
+    entry.say("mode", given.text(&MODE)?);
+    let (hgv, hgc) = input::pair(disk, hgv, hgc)?;
+    entry.hgv(&hgv.bytes);
+    entry.digest("hgc", &hgc.bytes);
+    let place = Place::of_known(given.path(&COPY)?)?;
+    let held = Held::take(disk, place.clone(), given.wait()?)?;
+    let (before, name) = (held.read()?, place.path().display().to_string());
+    entry.begin(&name, &before);
+    let mut copy = Register::from_bytes(before.clone());
+    let update = |copy: &mut Register| copy.update(mode, &hgv.bytes, &hgc.bytes);
+    let counts = update(&mut copy).map_err(|number| match number {
+        Number::Order | Number::OtherActor => Refusal::Number(number, name.clone()),
+        Number::Slots => explain::of_slots(&name, &before, |largest| update(largest).map(|_| ())),
+        other => explain::of_pair(other, &hgv, &hgc),
+    })?;
+    let replaced = held.replace(copy.bytes(), None);
+    if matches!(replaced, Ok(()) | Err(Fault::Counts(_))) {
+        entry.say("taken", counts.taken);
+        entry.say("rejected", counts.rejected);
+        entry.digest("after", copy.bytes());
+    }
+    entry.hold(held);
+    replaced?;
+    Ok(told(counts, &Totals::of(&hgv.bytes, &hgc.bytes)))
+}
+
+fn told(counts: Counts, totals: &Totals) -> Told {
+    let (taken, rejected) = (counts.taken, counts.rejected);
+    let told = Told::new(format!("taken {taken}, rejected {rejected}\n{}", totals.text()));
+    told.with("taken", taken).with("rejected", rejected).with("reasons", totals.json())
 }

@@ -1,44 +1,61 @@
-//! The note beside a register: which HGC belongs to the register on its way. It ends in a sum over its bytes, so that
-//! a note that was not written whole is known as such.
+//! The note beside a register: where the HGC of the import on its way belongs, the HGC itself, and by which digests the
+//! register of before and of after are known. It ends in a digest of its own, so that a note that was not written whole is
+//! known as such.
 
 use std::ffi::OsString;
 use std::os::unix::ffi::{OsStrExt, OsStringExt};
 use std::path::PathBuf;
 
+use crate::digest::{self, Digest};
+
+/// What is known of an import that is on its way.
 #[derive(Clone, Debug, PartialEq, Eq)]
 pub struct Note {
-    pub pending: PathBuf,
-    pub hgc: PathBuf,
+    /// Where the HGC belongs.
+    pub out: PathBuf,
+    /// The number of its folder: where a disk was unmounted another folder has the name.
+    pub folder: u64,
+    /// The register of before.
+    pub before: Digest,
+    /// The register of after.
+    pub after: Digest,
+    /// The HGC's bytes.
+    pub hgc: Vec<u8>,
 }
 
-/// FNV-1a, 64 bits.
-pub fn sum(bytes: &[u8]) -> u64 {
-    let turn = |sum: u64, byte: &u8| (sum ^ u64::from(*byte)).wrapping_mul(0x100_0000_01B3);
-    bytes.iter().fold(0xCBF2_9CE4_8422_2325, turn)
-}
+const HEAD: &[u8] = b"graftspindle note 2";
 
 /// A path has no byte 0.
 const END: u8 = 0;
 
 impl Note {
+    /// As it stands in its file.
     pub fn bytes(&self) -> Vec<u8> {
         let mut bytes = Vec::new();
-        for path in [&self.pending, &self.hgc] {
-            bytes.extend(path.as_os_str().as_bytes());
+        let folder = self.folder.to_string();
+        for text in [HEAD, self.out.as_os_str().as_bytes(), folder.as_bytes()] {
+            bytes.extend(text);
             bytes.push(END);
         }
-        bytes.extend(sum(&bytes).to_be_bytes());
+        bytes.extend(self.before.0);
+        bytes.extend(self.after.0);
+        bytes.extend(&self.hgc);
+        bytes.extend(digest::of(&bytes).0);
         bytes
     }
 
     /// None where it was not written whole.
     pub fn read(bytes: &[u8]) -> Option<Note> {
-        let (paths, told) = bytes.split_last_chunk::<8>()?;
-        if u64::from_be_bytes(*told) != sum(paths) {
+        let (text, told) = bytes.split_last_chunk::<32>()?;
+        if digest::of(text).0 != *told {
             return None;
         }
-        let path = |text: &[u8]| PathBuf::from(OsString::from_vec(text.to_vec()));
-        let mut texts = paths.split(|&byte| byte == END);
-        Some(Note { pending: path(texts.next()?), hgc: path(texts.next()?) })
+        let mut texts = text.splitn(4, |&byte| byte == END);
+        let (head, out, folder, rest) = (texts.next()?, texts.next()?, texts.next()?, texts.next()?);
+        let folder = std::str::from_utf8(folder).ok()?.parse().ok().filter(|_| head == HEAD)?;
+        let (before, rest) = rest.split_first_chunk::<32>()?;
+        let (after, hgc) = rest.split_first_chunk::<32>()?;
+        let out = PathBuf::from(OsString::from_vec(out.to_vec()));
+        Some(Note { out, folder, before: Digest(*before), after: Digest(*after), hgc: hgc.to_vec() })
     }
 }

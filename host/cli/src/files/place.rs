@@ -5,10 +5,11 @@ use std::io;
 use std::path::{Path, PathBuf};
 
 use super::disk::told;
-use super::note::sum;
+use crate::digest;
 
 const ENDING: &str = ".graftspindle-";
 
+/// A file's name without links.
 #[derive(Clone, Debug, PartialEq, Eq)]
 pub struct Place(PathBuf);
 
@@ -53,10 +54,12 @@ impl Place {
         Place(path.into())
     }
 
+    /// The name.
     pub fn path(&self) -> &Path {
         &self.0
     }
 
+    /// The folder that it stands in.
     pub fn folder(&self) -> &Path {
         self.0.parent().unwrap_or(Path::new("/"))
     }
@@ -75,13 +78,16 @@ impl Place {
 
     /// The HGC on its way, under a name that no other register's import uses.
     pub fn pending_for(&self, register: &Place) -> PathBuf {
-        self.beside(&format!("{:016x}", sum(register.0.as_os_str().as_encoded_bytes())))
+        let digest = digest::of(register.0.as_os_str().as_encoded_bytes()).to_string();
+        self.beside(&digest[..16])
     }
 
+    /// The note of an import that is on its way.
     pub fn note(&self) -> PathBuf {
         self.beside("note")
     }
 
+    /// The file that is locked.
     pub fn lock(&self) -> PathBuf {
         self.beside("lock")
     }

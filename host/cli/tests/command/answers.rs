@@ -14,7 +14,8 @@ fn assert_refused(folder: &Folder, line: &str, number: u64) {
     let before = folder.all();
     let done = graftspindle(folder, line);
     assert_eq!(done.status, number as i32, "{line}: {}", done.fault);
-    assert_eq!(done.fault, format!("graftspindle: {number}: {}\n", words_of(number)));
+    let head = format!("graftspindle: {number}: {}", words_of(number));
+    assert!(done.fault.starts_with(&head) && done.fault.lines().count() == 1, "{}", done.fault);
     assert_eq!(done.said, "");
     assert!(folder.all() == before, "{line}");
 }
@@ -63,7 +64,19 @@ fn stops_of_the_rest() {
     assert_refused(&folder, IMPORT, 33);
     folder.write("register", b"1");
     assert_refused(&folder, IMPORT, 23);
-    assert_refused(&folder, "register new --slots 8193 @fresh", 23);
+}
+
+/// There is no register yet that could be out of order.
+#[test]
+fn more_slots_than_any_register_has() {
+    let folder = ready();
+    let before = folder.all();
+    for slots in ["8193", "65536", "99999999999"] {
+        let done = graftspindle(&folder, &format!("register new --slots {slots} @fresh"));
+        assert_eq!(done.status, 1);
+        assert!(done.fault.contains("0 to 8192") && !done.fault.contains("in order"), "{}", done.fault);
+        assert!(folder.all() == before);
+    }
 }
 
 /// The command gives a mode of the two, and room for both blocks: 21, 34 and 53 only the functions can answer.
@@ -131,6 +144,9 @@ fn faults_of_the_command_line() {
         "lookup pan --register @register --register @register 1",
         "lookup pan --register",
         "lookup pan --regster @register 1",
+        "register grow --slots --wait 1 @register",
+        "lookup pan -r @register 1",
+        "lookup pan --register @register -x",
         "register new --slots x @fresh",
         "register new --slots -1 @fresh",
         "register new --slots 99999999999 @fresh",
@@ -152,7 +168,7 @@ fn help_of_each() {
     let all = graftspindle(&folder, "--help");
     assert_eq!((all.status, all.fault.as_str()), (0, ""));
     let usages: Vec<&str> = all.said.lines().filter(|line| line.starts_with("  graftspindle ")).collect();
-    assert_eq!(usages.len(), 9);
+    assert_eq!(usages.len(), 15);
     for usage in usages {
         let plain = |word: &&str| word.chars().all(|c| c.is_ascii_lowercase() || c == '-') && !word.starts_with("--");
         let name: Vec<&str> = usage.split_whitespace().skip(1).take_while(plain).collect();

@@ -6,10 +6,15 @@ use std::process::Command;
 
 /// Status 1, a line that has these words, and all files as they were.
 fn assert_fault(folder: &Folder, line: &str, words: &[&str]) {
+    assert_status(1, folder, line, words)
+}
+
+fn assert_status(status: i32, folder: &Folder, line: &str, words: &[&str]) {
     let before = folder.all();
     let done = graftspindle(folder, line);
-    assert_eq!((done.status, done.said.as_str()), (1, ""), "{line}");
-    assert!(done.fault.starts_with("graftspindle: 1: ") && done.fault.lines().count() == 1, "{}", done.fault);
+    assert_eq!((done.status, done.said.as_str()), (status, ""), "{line}");
+    let head = format!("graftspindle: {status}: ");
+    assert!(done.fault.starts_with(&head) && done.fault.lines().count() == 1, "{}", done.fault);
     assert!(words.iter().all(|word| done.fault.contains(word)), "{line}: {}", done.fault);
     assert!(folder.all() == before, "{line}");
 }
@@ -57,7 +62,11 @@ fn folder_that_takes_no_file() {
     assert_fault(&folder, &IMPORT.replace("@hgc", "/proc/hgc"), &["cannot write /proc/hgc"]);
     assert_fault(&folder, &IMPORT.replace("@register", "/proc/version"), &["cannot make the lock /proc/version"]);
     assert_fault(&folder, "register new --slots 1 /proc/fresh", &["cannot make the lock /proc/fresh"]);
-    assert_fault(&folder, &format!("issuers from-ait --issuers /proc/rows {AIT}"), &["cannot write /proc/rows"]);
+    assert_fault(
+        &folder,
+        &format!("issuers from-ait --issuers /proc/rows {AIT}"),
+        &["cannot make the lock /proc/rows"],
+    );
 }
 
 /// Where permissions count, for another than root.
@@ -143,5 +152,7 @@ fn left_over_that_cannot_be_finished() {
     let done = graftspindle(&folder, "register show @register");
     assert_eq!(done.status, 0);
     assert!(done.fault.contains("what a stopped import left is still there"), "{}", done.fault);
-    assert_fault(&folder, IMPORT, &["graftspindle-note is damaged"]);
+    assert_status(3, &folder, IMPORT, &["graftspindle-note is damaged", "register recover --discard"]);
+    assert_eq!(graftspindle(&folder, "register recover --discard @register").status, 0);
+    assert_eq!(graftspindle(&folder, IMPORT).status, 0);
 }

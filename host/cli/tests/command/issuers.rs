@@ -1,7 +1,12 @@
 //! The accepted issuer table of the demo, made by the tables of AP-3.5, as issuer rows.
 
 use crate::common::*;
+use crate::hooked::Hooked;
 use graftspindle_checks::plain;
+use std::cell::{Cell, RefCell};
+use std::ffi::OsString;
+use std::process::Stdio;
+use std::time::Duration;
 
 const ROWS: &[u8] = b"97990012      081690012397990024      081690012495780007      0819900125";
 
@@ -71,4 +76,31 @@ fn rows_that_break_their_form() {
     let none = [&with(66, b"000000000000000")[..128], &ait()[128 + 4 * 106..]].concat();
     let (folder, done) = from(&none);
     assert_eq!((done.status, folder.read("rows").len()), (0, 0));
+}
+
+/// One run is about to rename what it wrote when another begins: both end well, and no reader sees less than a table.
+#[test]
+fn two_at_once() {
+    let folder = Folder::new();
+    let line = format!("issuers from-ait --issuers @rows {AIT}");
+    let mut command = std::process::Command::new(program());
+    command.args(words(&folder, &line)).stdout(Stdio::null());
+    let (started, command) = (RefCell::new(None), RefCell::new(command));
+    let steps = Cell::new(0);
+    let disk = Hooked(|| {
+        steps.set(steps.get() + 1);
+        // A write has two steps, and the sync of its folder is the third.
+        if steps.get() == 4 {
+            *started.borrow_mut() = Some(command.borrow_mut().spawn()?);
+            std::thread::sleep(Duration::from_millis(300));
+        }
+        Ok(())
+    });
+    let given: Vec<OsString> = words(&folder, &line).into_iter().map(OsString::from).collect();
+    let first = graftspindle_cli::command::run(&disk, &given);
+    assert!(first.is_ok(), "{:?}", first.err());
+    assert_eq!(folder.read("rows"), ROWS);
+    let mut second = started.take().expect("it was started");
+    assert!(second.wait().expect("it ends").success());
+    assert_eq!((folder.read("rows"), folder.all().len()), (ROWS.to_vec(), 1));
 }

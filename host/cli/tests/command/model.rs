@@ -1,6 +1,7 @@
 //! A disk in memory that can lose its power. What a folder has not synced may or may not be there afterwards, each change of
 //! a name by itself; a file that is being written may hold any part of its bytes.
 
+use graftspindle_cli::files::disk::Like;
 use graftspindle_cli::files::Disk;
 use std::cell::RefCell;
 use std::collections::BTreeMap;
@@ -67,13 +68,15 @@ impl State {
         self.names.get(path).copied().ok_or_else(|| io::Error::from(io::ErrorKind::NotFound))
     }
 
+    /// What had the name goes first.
     fn make(&mut self, path: &Path) -> usize {
-        self.file(path).unwrap_or_else(|_| {
-            self.files.push(Vec::new());
-            let file = self.files.len() - 1;
-            self.change(Change::Made(path.to_path_buf(), file));
-            file
-        })
+        if self.names.contains_key(path) {
+            self.change(Change::Removed(path.to_path_buf()));
+        }
+        self.files.push(Vec::new());
+        let file = self.files.len() - 1;
+        self.change(Change::Made(path.to_path_buf(), file));
+        file
     }
 }
 
@@ -134,7 +137,7 @@ fn torn_ways(state: &State) -> Vec<State> {
 }
 
 impl Disk for Model {
-    fn read(&self, path: &Path) -> io::Result<Vec<u8>> {
+    fn read(&self, path: &Path, _most: usize) -> io::Result<Vec<u8>> {
         let state = self.0.borrow();
         Ok(state.files[state.file(path)?].clone())
     }
@@ -143,7 +146,7 @@ impl Disk for Model {
         Ok(self.0.borrow().names.contains_key(path))
     }
 
-    fn write(&self, path: &Path, bytes: &[u8], _like: &Path) -> io::Result<()> {
+    fn write(&self, path: &Path, bytes: &[u8], _like: Like) -> io::Result<()> {
         let mut state = self.0.borrow_mut();
         state.step()?;
         let file = state.make(path);
@@ -177,5 +180,21 @@ impl Disk for Model {
         synced.iter().for_each(|change| apply(change, &mut state.on_disk));
         state.unsynced = rest;
         Ok(())
+    }
+
+    fn owner(&self, _path: &Path) -> io::Result<u32> {
+        Ok(0)
+    }
+
+    fn read_owned(&self, path: &Path, most: usize) -> io::Result<(Vec<u8>, u32)> {
+        Ok((self.read(path, most)?, 0))
+    }
+
+    fn user(&self) -> io::Result<u32> {
+        Ok(0)
+    }
+
+    fn number_of(&self, _folder: &Path) -> io::Result<u64> {
+        Ok(1)
     }
 }

@@ -25,7 +25,8 @@ fn read_back() {
 fn update() {
     let folder = confirmed();
     let done = graftspindle(&folder, "update --copy @copy --mode incremental @hgv @hgc");
-    assert_eq!((done.status, done.said.as_str(), done.fault.as_str()), (0, "taken 3, rejected 1\n", ""));
+    let said = "taken 3, rejected 1\nrejected 12: miscellaneous: 1\n";
+    assert_eq!((done.status, done.said.as_str(), done.fault.as_str()), (0, said, ""));
     assert_eq!(folder.read("copy"), folder.read("register"));
 }
 

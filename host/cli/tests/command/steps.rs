@@ -10,7 +10,7 @@ use std::io;
 
 /// What happens at the step.
 #[derive(Clone, Copy, PartialEq)]
-enum Fate {
+pub enum Fate {
     /// The process ends: neither this step nor any later one is done, a file being written is there in part.
     Stop,
     /// The disk is full for this one step.
@@ -18,7 +18,7 @@ enum Fate {
 }
 
 /// A disk on which so many steps go well.
-fn faulty(steps: usize, fate: Fate) -> impl Disk {
+pub fn faulty(steps: usize, fate: Fate) -> impl Disk {
     let left = Cell::new(steps);
     Hooked(move || {
         if left.get() > 0 {
@@ -32,15 +32,26 @@ fn faulty(steps: usize, fate: Fate) -> impl Disk {
     })
 }
 
-fn run(disk: &dyn Disk, folder: &Folder, line: &str) -> Result<String, String> {
+pub fn run(disk: &dyn Disk, folder: &Folder, line: &str) -> Result<String, String> {
     let given: Vec<OsString> = words(folder, line).into_iter().map(OsString::from).collect();
-    command::run(disk, &given).map_err(|refusal| refusal.line())
+    command::run(disk, &given).map(|told| told.text).map_err(|refusal| refusal.line())
 }
 
 /// The command stopped or failing at each step; `after` looks at the folder. How many steps there are.
-fn at_each_step(fate: Fate, line: &str, after: impl Fn(&Folder, Result<String, String>)) -> usize {
-    for step in 0..50 {
+pub fn at_each_step(fate: Fate, line: &str, after: impl Fn(&Folder, Result<String, String>)) -> usize {
+    at_each_step_of(fate, line, |_| (), after)
+}
+
+/// The same in a folder that has more.
+pub fn at_each_step_of(
+    fate: Fate,
+    line: &str,
+    prepare: impl Fn(&Folder),
+    after: impl Fn(&Folder, Result<String, String>),
+) -> usize {
+    for step in 0..60 {
         let (folder, disk) = (ready(), faulty(step, fate));
+        prepare(&folder);
         let answer = run(&disk, &folder, line);
         let done = answer.is_ok();
         after(&folder, answer);
@@ -92,7 +103,7 @@ fn full_disk() {
     let before = ready().all();
     at_each_step(Fate::Full, IMPORT, |folder, answer| match answer {
         Ok(_) => assert!(both(folder) == new),
-        Err(fault) if fault.contains("counts as written") => {
+        Err(fault) if fault.starts_with("2: ") => {
             assert_eq!(folder.read("register"), new.0);
             assert_eq!(graftspindle(folder, STARTS[0]).status, 0);
             assert!(both(folder) == new);
@@ -135,4 +146,25 @@ fn new_register_and_rows() {
             assert!(!exists(folder, "fresh.graftspindle-new"));
         });
     }
+}
+
+/// A register that grows, and rows that are replaced: as before or as after, and the next run leaves nothing over.
+#[test]
+fn grown_register_and_replaced_rows() {
+    let grow = "register grow --slots 12 @register";
+    let old = ready().read("register");
+    at_each_step(Fate::Stop, grow, |folder, answer| {
+        assert_eq!(graftspindle(folder, STARTS[0]).status, 0);
+        let found = folder.read("register");
+        assert!(found == [old.clone(), vec![0; 4 * 128]].concat() || found == old && answer.is_err());
+        assert_eq!(folder.all().len(), 4, "left over: {:?}", folder.all());
+    });
+    let from_ait = format!("issuers from-ait --issuers @rows {AIT}");
+    let before = ready().read("rows");
+    at_each_step(Fate::Stop, &from_ait, |folder, answer| {
+        let found = folder.read("rows");
+        assert!(found.len() == 3 * 24 || found == before && answer.is_err());
+        assert_eq!(graftspindle(folder, &from_ait).status, 0);
+        assert_eq!((folder.read("rows").len(), folder.all().len()), (3 * 24, 4));
+    });
 }

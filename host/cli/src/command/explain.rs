@@ -1,0 +1,90 @@
+//! What a refusal says beside its sentence: the file, and what can be read from it. Nothing is judged here; where something
+//! has to be, the proved functions are asked.
+
+use super::input::Input;
+use super::{texts, Refusal};
+use graftspindle::sizes::{FOOTER, HEADER, HGV_MOST, LINE, ROW, SLOT, SLOTS_MOST};
+use graftspindle::{Number, Register};
+
+/// Of an HGV alone.
+pub fn of_hgv(number: Number, hgv: &Input) -> Refusal {
+    let name = &hgv.name;
+    let words = match number {
+        Number::HgvLength => length(hgv),
+        Number::Version | Number::FullVersion => format!("{name} has {}", texts::version(&hgv.bytes)),
+        Number::Parties => format!("{name}: its receiver is {}", texts::receiver(&hgv.bytes)),
+        Number::Count => {
+            let (says, has) = (texts::count(&hgv.bytes), hgv.bytes.len().saturating_sub(HEADER + FOOTER) / LINE);
+            format!("{name} says {says} and has {has} lines")
+        }
+        _ => name.clone(),
+    };
+    Refusal::Number(number, words)
+}
+
+/// Of an HGV and its HGC.
+pub fn of_pair(number: Number, hgv: &Input, hgc: &Input) -> Refusal {
+    match number {
+        Number::Hgc => Refusal::Number(number, format!("{} beside {}", hgc.name, hgv.name)),
+        other => of_hgv(other, hgv),
+    }
+}
+
+/// The lengths below and above, and what line ends of two bytes would explain.
+fn length(hgv: &Input) -> String {
+    let (name, length) = (&hgv.name, hgv.bytes.len());
+    let has = match length {
+        0 => format!("{name} is empty"),
+        length if length > HGV_MOST => return format!("{name} has more than {HGV_MOST} bytes"),
+        length => format!("{name} has {length} bytes"),
+    };
+    let lines = length.saturating_sub(HEADER + FOOTER) / LINE;
+    let below = HEADER + FOOTER + lines * LINE;
+    let right = if length < below { format!("{below} or more") } else { format!("{below} or {}", below + LINE) };
+    format!("{has}, and would need {right}{}", line_ends(&hgv.bytes))
+}
+
+fn line_ends(hgv: &[u8]) -> String {
+    let is_cr = |i: usize| hgv[i..].starts_with(b"\r\n");
+    let alone: Vec<u8> = (0..hgv.len()).filter(|&i| !is_cr(i)).map(|i| hgv[i]).collect();
+    let pairs = hgv.len() - alone.len();
+    if pairs == 0 {
+        return String::new();
+    }
+    let fits = graftspindle::read_back(&alone, &[]) != Err(Number::HgvLength);
+    let then = if fits { ": with LF alone the length would be right" } else { "" };
+    format!("; it has CR LF in {pairs} places{then}")
+}
+
+/// The sender's half of 29: the receiver's is asked of reading back, which knows no rows.
+pub fn of_parties(hgv: &Input, rows: &Input) -> Refusal {
+    if graftspindle::read_back(&hgv.bytes, &[]) == Err(Number::Parties) {
+        return of_hgv(Number::Parties, hgv);
+    }
+    let mut actors: Vec<String> = rows.bytes.chunks(ROW).map(|row| texts::shown(&row[ROW - 6..])).collect();
+    actors.dedup();
+    let (sender, known) = (texts::sender(&hgv.bytes), actors.join(", "));
+    let words = format!("{} has no row of {sender}, the sender of {}; its actors: {known}", rows.name, hgv.name);
+    Refusal::Number(Number::Parties, words)
+}
+
+/// How many slots are short: the same is tried on a register with as many free slots behind it as there can be.
+pub fn of_slots(name: &str, bytes: &[u8], again: impl FnOnce(&mut Register) -> Result<(), Number>) -> Refusal {
+    let slots = bytes.len() / SLOT;
+    let mut largest = Register::from_bytes([bytes, &vec![0; SLOTS_MOST * SLOT - bytes.len()]].concat());
+    let has = format!("{name} has {}", parts(slots, "slot"));
+    let words = match again(&mut largest) {
+        Err(_) => format!("{has}, and no register has more than {SLOTS_MOST}, which would be too few too"),
+        Ok(()) => {
+            let used = largest.records().count();
+            let short = used.saturating_sub(slots);
+            let verb = if short == 1 { "is" } else { "are" };
+            format!("{has}; {short} more {verb} needed: graftspindle register grow --slots {used} {name}")
+        }
+    };
+    Refusal::Number(Number::Slots, words)
+}
+
+fn parts(count: usize, word: &str) -> String {
+    format!("{count} {word}{}", if count == 1 { "" } else { "s" })
+}

@@ -1,0 +1,61 @@
+//! `register list`: the records as CSV.
+
+use std::path::Path;
+
+use super::show::is_active;
+use crate::command::arguments::Arguments;
+use crate::command::json::Json;
+use crate::command::options::Use::Optional;
+use crate::command::options::AT;
+use crate::command::{beside, clock, look, texts, Answer, Command, Told};
+use crate::files::Disk;
+
+pub static LIST: Command = Command {
+    name: "register list",
+    options: &[Optional(&AT)],
+    words: &["R"],
+    help: "\
+Lists the records of the register R as CSV, UTF-8, one line for each in the order of their slots, under a line of names.
+Whether one is active is asked for the time, which is UTC and the present one unless it is given.
+",
+    run,
+};
+
+const NAMES: [&str; 9] = ["slot", "actor", "pan", "plate", "nationality", "context_mark", "obe", "end", "active"];
+
+fn row(place: usize, slot: &[u8], active: bool) -> [Json; 9] {
+    [
+        place.into(),
+        texts::actor(slot).into(),
+        texts::pan(slot).into(),
+        texts::plate(slot).into(),
+        texts::nationality(slot).into(),
+        texts::context_mark(slot).into(),
+        texts::obe(slot).into(),
+        texts::end(slot).into(),
+        active.into(),
+    ]
+}
+
+/// No field of a record in order has a comma, a quote or a line end.
+fn line(row: &[Json]) -> String {
+    let field = |value: &Json| match value {
+        Json::Text(text) => text.clone(),
+        other => other.to_string(),
+    };
+    row.iter().map(field).collect::<Vec<String>>().join(",") + "\n"
+}
+
+fn run(disk: &dyn Disk, given: &Arguments) -> Answer {
+    let [path] = given.rest()?;
+    let (register, name) = (look(disk, Path::new(path))?, Path::new(path).display());
+    register.in_order().map_err(beside(name))?;
+    let time = given.text_if_given(&AT).map_or_else(clock::now, String::into_bytes);
+    let mut rows = Vec::new();
+    for (place, slot) in register.records().enumerate() {
+        rows.push(row(place, slot, is_active(slot, &time).map_err(beside(texts::shown(&time)))?));
+    }
+    let text = NAMES.join(",") + "\n" + &rows.iter().map(|row| line(row)).collect::<String>();
+    let records = rows.into_iter().map(|row| Json::Object(NAMES.into_iter().zip(row).collect()));
+    Ok(Told::new(text).with("records", Json::List(records.collect())))
+}

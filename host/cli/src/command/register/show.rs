@@ -1,0 +1,57 @@
+//! `register show`.
+
+use std::collections::BTreeMap;
+use std::path::Path;
+
+use crate::command::arguments::Arguments;
+use crate::command::json::Json;
+use crate::command::options::Use::Optional;
+use crate::command::options::AT;
+use crate::command::{beside, clock, look, texts, Answer, Command, Told};
+use crate::files::Disk;
+use graftspindle::{Number, Register};
+
+pub static SHOW: Command = Command {
+    name: "register show",
+    options: &[Optional(&AT)],
+    words: &["R"],
+    help: "\
+Counts the records of the register R: for each actor how many are active and how many ended at the time, which is UTC and
+the present one unless it is given; and the free slots.
+",
+    run,
+};
+
+/// Whether a record is active is asked of the lookup, in a register that holds it alone.
+pub fn is_active(slot: &[u8], time: &[u8]) -> Result<bool, Number> {
+    let (plate, nationality) = texts::plate_key(slot);
+    match Register::from_bytes(slot.to_vec()).by_plate(plate, nationality, time) {
+        Ok(_) => Ok(true),
+        Err(Number::NoRecord) => Ok(false),
+        Err(other) => Err(other),
+    }
+}
+
+fn run(disk: &dyn Disk, given: &Arguments) -> Answer {
+    let [path] = given.rest()?;
+    let (register, name) = (look(disk, Path::new(path))?, Path::new(path).display());
+    register.in_order().map_err(beside(name))?;
+    let time = given.text_if_given(&AT).map_or_else(clock::now, String::into_bytes);
+    let mut actors: BTreeMap<String, (u64, u64)> = BTreeMap::new();
+    for slot in register.records() {
+        let (active, ended) = actors.entry(texts::actor(slot)).or_default();
+        let counted = if is_active(slot, &time).map_err(beside(texts::shown(&time)))? { active } else { ended };
+        *counted += 1;
+    }
+    let (slots, used) = (register.slots().count(), register.records().count());
+    let line =
+        |(actor, (active, ended)): (&String, &(u64, u64))| format!("actor {actor}: active {active}, ended {ended}\n");
+    let told: String = actors.iter().map(line).collect();
+    let text = format!("{told}slots {slots}, used {used}, free {}\n", slots - used);
+    let actors = actors.into_iter().map(|(actor, (active, ended))| {
+        Json::Object(vec![("actor", actor.into()), ("active", active.into()), ("ended", ended.into())])
+    });
+    let actors = Json::List(actors.collect());
+    let told = Told::new(text).with("slots", slots).with("used", used).with("free", slots - used);
+    Ok(told.with("actors", actors))
+}
