@@ -1,6 +1,7 @@
 //! The definition written by another hand, to compare the proved library with: `plain` follows it sentence by sentence,
 //! `hashed` answers the same with hashed searches, `engines` puts all under one form, and `generate` and `sample` make
-//! inputs, right ones and damaged ones. `sources` finds the project's own files.
+//! inputs, right ones and damaged ones. `vectors` answers the programs' vectors by `plain`. `sources` finds the project's own
+//! files.
 
 #![forbid(unsafe_code)]
 
@@ -10,3 +11,4 @@ pub mod hashed;
 pub mod plain;
 pub mod sample;
 pub mod sources;
+pub mod vectors;

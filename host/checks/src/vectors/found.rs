@@ -1,0 +1,21 @@
+//! A register of four slots, a letter for each, and what is asked of it.
+
+use super::blocks::{field, rest};
+use super::{Answer, Samples};
+use crate::plain;
+use std::ops::Range;
+
+/// The number, and where it is 0 the place of the slot.
+fn found((number, slot): (u64, Range<usize>)) -> Option<Answer> {
+    let place = if number == 0 { format!(" at {}", slot.start / 128) } else { String::new() };
+    Some(Answer { first: number.to_string(), behind: place.into_bytes() })
+}
+
+pub fn answer(samples: &Samples, tag: &[u8], f: &[u8]) -> Option<Answer> {
+    let register = samples.parts(field(f, 1, 4));
+    match tag {
+        b"ordered " => Answer::truth(plain::in_order(&register)),
+        b"by pan  " => found(plain::by_pan(&register, rest(f, 6))),
+        _ => found(plain::by_plate(&register, field(f, 6, 15), field(f, 16, 18), rest(f, 19))),
+    }
+}
