@@ -1,10 +1,12 @@
 //! What stands in several places of the project is the same in each: the C boundary, contracts and their laws, the pages of
-//! `docs/`.
+//! `docs/`; and each edit that must be refused is applied as it was meant.
 
 #[path = "sources/believed.rs"]
 mod believed;
 #[path = "sources/declarations.rs"]
 mod declarations;
+#[path = "sources/edits.rs"]
+mod edits;
 #[path = "sources/mistakes.rs"]
 mod mistakes;
 #[path = "sources/promises.rs"]
