@@ -72,8 +72,8 @@ fn digits(width: usize) -> impl Iterator<Item = String> {
     (0..10usize.pow(width as u32)).map(move |n| format!("{n:0width$}"))
 }
 
-/// Every trial that has lines.
-pub fn trials() -> Vec<Trial> {
-    let all = [fields::listed(), fields::bytes(), fields::emissions(), plates::trials(), times::trials()];
-    all.into_iter().flatten().chain([fields::weights()]).collect()
+/// Every trial that has lines, each made when it is asked for.
+pub fn trials() -> impl Iterator<Item = Trial> {
+    let all = [fields::listed, fields::emissions, fields::bytes, plates::trials, times::trials, fields::weights];
+    all.into_iter().chain([times::dates as fn() -> Vec<Trial>]).flat_map(|made| made())
 }

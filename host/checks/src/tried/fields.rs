@@ -15,14 +15,14 @@ pub fn listed() -> Vec<Trial> {
 }
 
 /// Every weight under every tariff.
-pub fn weights() -> Trial {
+pub fn weights() -> Vec<Trial> {
     let of_tariff = |tariff: &'static str| {
         digits(4).map(move |weight| {
             let right = !LIGHT_TARIFFS.contains(&tariff) || weight.as_str() <= HEAVIEST_LIGHT;
             (vec![(46, tariff.as_bytes().to_vec()), (97, weight.into_bytes())], right)
         })
     };
-    Trial::of("weight".to_string(), 12, TARIFFS.into_iter().flat_map(of_tariff))
+    vec![Trial::of("weight".to_string(), 12, TARIFFS.into_iter().flat_map(of_tariff))]
 }
 
 /// All 256 bytes in one place.

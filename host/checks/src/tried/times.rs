@@ -46,10 +46,10 @@ fn valid_to(time: String, right: bool) -> (super::Puts, bool) {
 }
 
 /// The dates of 400 years, after which the calendar repeats itself, as Valid to.
-fn dates() -> Trial {
+pub fn dates() -> Vec<Trial> {
     let years = (1700..2100).map(|year| format!("{year:04}"));
     let values = years.flat_map(|year| dates_of(&year)).map(|(date, right)| valid_to(format!("{date}000000"), right));
-    Trial::of("Valid to, dates".to_string(), 12, values)
+    vec![Trial::of("Valid to, dates".to_string(), 12, values)]
 }
 
 /// Hours, minutes and seconds 00 to 99, each for itself.
@@ -84,5 +84,5 @@ fn zeros() -> Trial {
 }
 
 pub fn trials() -> Vec<Trial> {
-    bytes().into_iter().chain([zeros(), parts(), dates()]).collect()
+    bytes().into_iter().chain([zeros(), parts()]).collect()
 }

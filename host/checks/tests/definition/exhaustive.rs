@@ -17,9 +17,8 @@ fn told(engine: &Engine, lines: &[Vec<u8>]) -> Vec<u8> {
 
 #[test]
 fn fields_as_lines_and_as_records() {
-    let trials = trials();
-    for engine in ENGINES {
-        for trial in &trials {
+    for trial in trials() {
+        for engine in ENGINES {
             let other = trial.as_lines(|lines| told(engine, lines)).or_else(|| trial.as_records(engine.in_order));
             assert_eq!(other, None, "{}", engine.name);
         }

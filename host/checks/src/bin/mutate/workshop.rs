@@ -1,0 +1,94 @@
+//! A copy of the plain implementation and of what judges it, compiled without the proved library, as fast as may be.
+
+use super::mutations::Change;
+use std::fs::{copy, create_dir_all, read_dir, read_to_string, remove_dir_all, write};
+use std::path::{Path, PathBuf};
+use std::process::Command;
+
+/// What the judge stands on.
+const PARTS: [&str; 5] = ["plain", "vectors", "tried", "lists", "sample"];
+
+pub struct Workshop {
+    folder: PathBuf,
+}
+
+fn told<T>(what: &Path, done: std::io::Result<T>) -> Result<T, String> {
+    done.map_err(|fault| format!("{}: {fault}", what.display()))
+}
+
+/// A file, and the folder of its own name.
+fn copy_part(from: &Path, to: &Path) -> Result<(), String> {
+    told(from, copy(from.with_extension("rs"), to.with_extension("rs")))?;
+    for entry in read_dir(from).into_iter().flatten().flatten() {
+        told(to, create_dir_all(to))?;
+        told(&entry.path(), copy(entry.path(), to.join(entry.file_name())))?;
+    }
+    Ok(())
+}
+
+impl Workshop {
+    /// Copies what is needed, and compiles what no change touches.
+    pub fn open(folder: &Path) -> Result<Workshop, String> {
+        let workshop = Workshop { folder: folder.to_path_buf() };
+        if folder.exists() {
+            told(folder, remove_dir_all(folder))?;
+        }
+        told(folder, create_dir_all(folder))?;
+        copy_part(Path::new("graftspindle/src/raw/answers"), &folder.join("raw"))?;
+        copy_part(Path::new("checks/src/bin/judge"), &folder.join("judge"))?;
+        for part in PARTS {
+            copy_part(&Path::new("checks/src").join(part), &folder.join(part))?;
+        }
+        let root = PARTS.map(|part| format!("pub mod {part};\n")).concat();
+        told(folder, write(folder.join("graftspindle.rs"), "pub mod raw;\n"))?;
+        told(folder, write(folder.join("graftspindle_checks.rs"), root))?;
+        workshop.compile("graftspindle", "rlib")?;
+        Ok(workshop)
+    }
+
+    /// Only what changed is compiled again.
+    fn compile(&self, name: &str, kind: &str) -> Result<(), String> {
+        let mut rustc = Command::new("rustc");
+        rustc.current_dir(&self.folder).args(["--edition", "2021", "--cap-lints", "allow", "-L", "."]);
+        rustc.args(["--crate-type", kind, "--crate-name", name, "-C", &format!("incremental=kept-{name}")]);
+        for used in ["graftspindle", "graftspindle_checks"].into_iter().filter(|used| *used != name) {
+            rustc.args(["--extern", used]);
+        }
+        let done = told(&self.folder, rustc.arg(format!("{name}.rs")).output())?;
+        if done.status.success() {
+            return Ok(());
+        }
+        Err(format!("rustc refuses {name}:\n{}", String::from_utf8_lossy(&done.stderr)))
+    }
+
+    /// What notices the implementation as it now stands in the folder.
+    pub fn judge(&self) -> Result<Option<String>, String> {
+        self.compile("graftspindle_checks", "rlib")?;
+        self.compile("judge", "bin")?;
+        let done = told(&self.folder, Command::new(self.folder.join("judge")).arg("../crates").output())?;
+        let found = String::from_utf8_lossy(&done.stdout).trim_end().to_string();
+        match (done.status.success(), found.is_empty()) {
+            (true, true) => Ok(None),
+            (true, false) => Ok(Some(found)),
+            _ => Err(format!("the judge fails: {}", String::from_utf8_lossy(&done.stderr))),
+        }
+    }
+
+    /// The file of a change as it is, and with the change made.
+    pub fn changed(&self, change: &Change) -> Result<(String, String), String> {
+        let path = Path::new("checks/src/plain").join(&change.file);
+        let source = told(&path, read_to_string(&path))?;
+        let after = change.apply(&source)?;
+        Ok((source, after))
+    }
+
+    /// What notices a change; the copy is afterwards as it was.
+    pub fn try_change(&self, change: &Change) -> Result<Option<String>, String> {
+        let (source, after) = self.changed(change)?;
+        let path = self.folder.join("plain").join(&change.file);
+        told(&path, write(&path, after))?;
+        let noticed = self.judge().map_err(|fault| format!("{}: {}: {fault}", change.file, change.what))?;
+        told(&path, write(&path, source))?;
+        Ok(noticed)
+    }
+}
