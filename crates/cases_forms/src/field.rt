@@ -1,11 +1,5 @@
 // What is asked of a field, by its tag.
-const NO: u64 = 100;
-
-const YES: u64 = 101;
-
-pub fn told(holds: bool) -> u64 {
-    if holds { YES } else { NO }
-}
+use crate::tell::told;
 
 fn of_time(tag: &[u8], f: &[u8], samples: &[u8; 33280]) -> u64 {
     if texts::same(tag, b"time    ") {

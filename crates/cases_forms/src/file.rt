@@ -1,5 +1,5 @@
 // An HGV of one line with one place changed.
-use crate::field::told;
+use crate::tell::told;
 
 // Has a block of so many bytes the length of a file.
 fn has_length(n: usize) -> bool {

@@ -1,5 +1,5 @@
 // The right line, or that line with one place changed.
-use crate::field::told;
+use crate::tell::told;
 
 fn of_changed(tag: &[u8], line: &[u8], f: &[u8], samples: &[u8; 33280]) -> u64 {
     if texts::same(tag, b"line    ") {

@@ -1,55 +1,51 @@
 // Runs the vectors on the forms of fields, issuer rows, lines and HGVs, from the document and docs/DECISIONS.md. `stdin`
 // has one a line: what is asked in eight characters, a blank, and what it is asked of; `stdout` has the same lines, each
-// with its answer. A line that begins with # is a note, and `text` gives the text that a letter names.
+// with its answer. A line that begins with # is a note, and `text` gives the text that a letter names. ~ stands for LF and ^
+// for CR. `each` answers the vector behind it for each value of a run of wild characters in it: # a digit, @ a capital, ? any
+// byte.
 use libc::STDIN_FILENO;
 use libc::STDOUT_FILENO;
 
+mod each;
 mod field;
 mod file;
 mod line;
+mod tell;
 
-const NO: u64 = 100;
-
-const YES: u64 = 101;
-
-fn tell(answer: u64) {
-    io::write_all(STDOUT_FILENO, b" -> ");
-    if answer == NO {
-        io::write_all(STDOUT_FILENO, b"no");
-        return;
-    }
-    if answer == YES {
-        io::write_all(STDOUT_FILENO, b"yes");
-        return;
-    }
-    io::print_decimal(STDOUT_FILENO, answer);
-}
-
-fn answer(line: &[u8], samples: &mut [u8; 33280]) {
-    let tag = texts::field(line, 1, 8);
-    let f = texts::field(line, 10, 65536);
+fn answer(line: &mut [u8], samples: &mut [u8; 33280]) {
     if texts::same(texts::field(line, 1, 1), b"#") {
         return;
     }
-    if texts::same(tag, b"text    ") {
-        vectors::keep(samples, f);
+    if texts::same(texts::field(line, 1, 8), b"text    ") {
+        vectors::keep(samples, texts::field(line, 10, 65536));
         return;
     }
-    tell(field::answer(tag, f, samples));
+    io::write_all(STDOUT_FILENO, b" -> ");
+    if texts::same(texts::field(line, 1, 8), b"each    ") {
+        each::of_run(line, samples);
+        return;
+    }
+    tell::answer(field::answer(
+        texts::field(line, 1, 8),
+        texts::field(line, 10, 65536),
+        samples,
+    ));
 }
 
-fn case(line: &[u8], samples: &mut [u8; 33280]) {
+// A line is told as it was read, and its marks are turned before it is answered.
+fn case(line: &mut [u8], samples: &mut [u8; 33280]) {
     io::write_all(STDOUT_FILENO, line);
+    vectors::mark(line);
     answer(line, samples);
     io::write_all(STDOUT_FILENO, b"\n");
 }
 
-fn each_case(text: &[u8]) {
+fn each_case(text: &mut [u8]) {
     let mut samples = [0u8; 33280];
     let mut i: usize = 0;
     while i < text.len() {
         let end = i + vectors::before(&text[i..], 10);
-        case(&text[i..end], &mut samples);
+        case(&mut text[i..end], &mut samples);
         i = end + 1;
     }
 }
@@ -57,5 +53,5 @@ fn each_case(text: &[u8]) {
 fn main() {
     let mut text = io::large_buffer();
     let n = io::read_full(STDIN_FILENO, &mut text);
-    each_case(&text[..n]);
+    each_case(&mut text[..n]);
 }

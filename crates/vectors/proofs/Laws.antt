@@ -1,13 +1,13 @@
--- A text copied by what its bytes stand for, and texts laid one behind the other, as the loops have them. Assumes nothing.
+-- A line turned into the bytes that it stands for, and texts laid one behind the other, as the loops have them. Assumes nothing.
 use mathlib.Core.Path.{_≡_, refl, sym, ap, _∙_}
 use mathlib.Core.Bool.{Bool, true, false, _&&_}
 use mathlib.Core.List.{List, [], _∷_, map, map-append}
-use Prim.Native.Nat.{ℕ, _<_, _≤_, _+_, _-_, _*_}
+use Prim.Native.Nat.{ℕ, suc, _<_, _≤_, _+_, _-_, _*_}
 use native.Mathlib.Numerals.{add-one}
 use native.Mathlib.Omega.{arith}
 use lib.Dec.{leb}
-use lib.ListN.{length, take, drop, getD, set, length-append, length-take, length-drop, drop-of-length-le}
-use lib.Seq.{take-all, take-suc, take-suc-set, drop-cons}
+use lib.ListN.{length, take, drop, getD, set, length-set, length-append, length-take, length-drop, drop-of-length-le}
+use lib.Seq.{take-all, take-suc, take-suc-set, drop-cons, drop-set-lt}
 use borrow.Author.Tests.{eq-eqb, ne-eqb, le-leb, lt-leb, leb-true}
 use Rattle.theory.specs.laws.Truth.{same-truth, and-both, and-left, and-right}
 use Rattle.theory.specs.Parts.{partAt}
@@ -17,24 +17,37 @@ use Rattle.numbers.specs.Number.{number}
 use Rattle.writing.specs.Put.{putField}
 use Rattle.vectors.specs.Vectors.{other, marked, fits, putText, changed, kept, sample, laid}
 
--- ---- a text copied: the first i bytes are
+-- what stands behind the first i bytes of two texts is one: so is the next byte, and so is what stands behind it
+next-same : (a b : List ℕ) (i : ℕ) → drop i a ≡ drop i b → i < length a → i < length b → getD a i 0 ≡ getD b i 0
+next-same a b i e h k = let p = drop-cons a i 0 h in let q = drop-cons b i 0 k in cc
 
-unfoldable pub Copied : List ℕ → List ℕ → ℕ → Type 0
-Copied to from i = take i to ≡ map marked (take i from)
+rest-same : (a b : List ℕ) (i x : ℕ) → drop i a ≡ drop i b → i < length a → i < length b → drop (i + 1) (set a i x) ≡ drop (i + 1) b
+rest-same a b i x e h k =
+    let p = drop-cons a i 0 h in
+    let q = drop-cons b i 0 k in
+    let r : drop (suc i) a ≡ drop (suc i) b = cc in
+    rw (add-one, drop-set-lt (suc i) a i x (omega arith)) r
 
-module _ (to from : List ℕ) where
-  pub copied-start : Copied to from 0
-  unfolding Copied
-  copied-start = refl
+-- ---- a line marked: the first i bytes are, and those behind them stand as they were
 
-  module _ (i : ℕ) (v : Copied to from i) where
-    pub copied-turn : (b : ℕ) → b ≡ marked (getD from i 0) → i < length to → i < length from → Copied (set to i b) from (i + 1)
-    unfolding Copied
-    copied-turn b e h k = rw (add-one, take-suc-set to i b, take-suc from i 0, map-append marked (take i from) (getD from i 0 ∷ []), v, e)
+unfoldable pub Marking : List ℕ → List ℕ → ℕ → Type 0
+Marking line₀ line i = (take i line ≡ map marked (take i line₀)) × (drop i line ≡ drop i line₀)
 
-    pub copied-end : length to ≤ i → length from ≤ i → to ≡ map marked from
-    unfolding Copied
-    copied-end h k = sym (take-all i to h) ∙ v ∙ ap (map marked) (take-all i from k)
+module _ (line₀ : List ℕ) where
+  pub marking-start : Marking line₀ line₀ 0
+  unfolding Marking
+  marking-start = (refl, refl)
+
+  module _ (line : List ℕ) (i : ℕ) (v : Marking line₀ line i) where
+    pub marking-turn : (b : ℕ) → b ≡ marked (getD line i 0) → i < length line → i < length line₀ → Marking line₀ (set line i b) (i + 1)
+    unfolding Marking
+    marking-turn b e h k =
+        let g : getD line i 0 ≡ getD line₀ i 0 = next-same line line₀ i (v .1) h k in
+        (rw (add-one, take-suc-set line i b, take-suc line₀ i 0, map-append marked (take i line₀) (getD line₀ i 0 ∷ []), v .0, e, g), rest-same line line₀ i b (v .1) h k)
+
+    pub marking-end : length line ≤ i → length line₀ ≤ i → line ≡ map marked line₀
+    unfolding Marking
+    marking-end h k = sym (take-all i line h) ∙ v .0 ∙ ap (map marked) (take-all i line₀ k)
 
 -- ---- what a byte stands for
 
@@ -81,7 +94,7 @@ fits-within from n room h =
     (leb-true 1 from (and-left (leb 1 from) (leb (from - 1 + n) room) h), leb-true (from - 1 + n) room (and-right (leb 1 from) (leb (from - 1 + n) room) h))
 
 -- what was put, or stayed
-pub text-put : (from : ℕ) (t b b′ : List ℕ) (r : Bool) → r ≡ fits from (length t) (length b) → r ≡ true → b′ ≡ putField from (map marked t) b → b′ ≡ putText from t b
+pub text-put : (from : ℕ) (t b b′ : List ℕ) (r : Bool) → r ≡ fits from (length t) (length b) → r ≡ true → b′ ≡ putField from t b → b′ ≡ putText from t b
 unfolding putText
 text-put from t b b′ r e h k = k ∙ rw (← e, h)
 

@@ -1,7 +1,7 @@
 -- What the files of vectors mean: marks for the bytes that no line can hold, a place changed, and texts named by letters.
 -- Assumes nothing.
 use mathlib.Core.Bool.{Bool, not, cond, _&&_}
-use mathlib.Core.List.{List, [], _∷_, map}
+use mathlib.Core.List.{List, [], _∷_}
 use Prim.Native.Nat.{ℕ, _+_, _-_, _*_}
 use lib.Dec.{eqb, leb}
 use lib.ListN.{length, take, getD}
@@ -23,7 +23,7 @@ fits from n room = leb 1 from && leb (from - 1 + n) room
 
 -- the block with the text from a position on, or as it was where the text does not lie within it
 unfoldable pub putText : ℕ → List ℕ → List ℕ → List ℕ
-putText from t b = cond (fits from (length t) (length b)) (putField from (map marked t) b) b
+putText from t b = cond (fits from (length t) (length b)) (putField from t b) b
 
 -- the position in three digits, a blank, the text
 unfoldable pub changed : List ℕ → List ℕ → List ℕ

@@ -1,11 +1,11 @@
-// The files of vectors: where a part of a line ends, texts laid out by the letters that name them, and a place changed.
+// The files of vectors: where a part of a line ends, marks in it, texts laid out by the letters that name them, and a place
+// changed.
 ghost use mathlib.Core.Path.{_≡_};
-ghost use mathlib.Core.List.{map};
 ghost use Prim.Native.Nat.{_+_, _-_, _*_, _≤_};
 ghost use lib.ListN.{length, getD};
 ghost use Rattle.writing.specs.Put.{putField};
 ghost use Rattle.vectors.specs.Vectors.{marked, fits, putText, sample};
-ghost use Rattle.vectors.specs.Promises.{Before, Change, Keep, Lay};
+ghost use Rattle.vectors.specs.Promises.{Before, Mark, Change, Keep, Lay};
 
 // The most bytes that a text with a letter has.
 pub const WIDTH: usize = 130;
@@ -37,14 +37,14 @@ fn marked(b: u8) -> u8
     b
 }
 
-fn copy_marked(to: &mut [u8], from: &[u8])
-    requires { ⌜ length (now to) ≡ length (now from) ⌝ }
-    ensures { λ _. ⌜ now (to .exit) ≡ map marked (now (from .entry)) ⌝ }
+// The bytes of a line turned into those that they stand for, once, when it is read.
+pub fn mark(line: &mut [u8])
+    ensures { λ _. ⌜ Mark (now (line .entry)) (now (line .exit)) ⌝ }
 {
     let mut i: usize = 0;
-    while i < from.len() {
-        let b = marked(from[i]);
-        to[i] = b;
+    while i < line.len() {
+        let b = marked(line[i]);
+        line[i] = b;
         i += 1;
     }
 }
@@ -62,21 +62,12 @@ fn fits(from: usize, n: usize, room: usize) -> bool
     from - 1 <= room - n
 }
 
-fn put_marked(to: &mut [u8], from: usize, text: &[u8])
-    requires { ⌜ (1 ≤ from) × (from - 1 + length (now text) ≤ length (now to)) ⌝ }
-    ensures { λ _. ⌜ now (to .exit) ≡ putField from (map marked (now (text .entry))) (now (to .entry)) ⌝ }
-{
-    let at = from - 1;
-    let behind = at + text.len();
-    copy_marked(&mut to[at..behind], text);
-}
-
 // A text over a block from a position on, where it lies within it.
 fn put_text(to: &mut [u8], from: usize, text: &[u8])
     ensures { λ _. ⌜ now (to .exit) ≡ putText from (now (text .entry)) (now (to .entry)) ⌝ }
 {
     if fits(from, text.len(), to.len()) {
-        put_marked(to, from, text);
+        writing::put_field(to, from, text);
     }
 }
 

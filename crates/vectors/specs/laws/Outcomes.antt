@@ -3,10 +3,13 @@ use mathlib.Core.Path.{_≡_}
 use mathlib.Core.List.{List}
 use Prim.Native.Nat.{ℕ}
 use Rattle.theory.specs.laws.Outcome.{one-outcome}
-use Rattle.vectors.specs.Promises.{Before, Change, Keep, Lay}
+use Rattle.vectors.specs.Promises.{Before, Mark, Change, Keep, Lay}
 
 pub before-one : (f : List ℕ) (end r s : ℕ) → Before f end r → Before f end s → r ≡ s
 before-one f end r s h k = one-outcome (h .0) (k .0)
+
+pub mark-one : (line r s : List ℕ) → Mark line r → Mark line s → r ≡ s
+mark-one line r s = one-outcome
 
 pub change-one : (to f r s : List ℕ) → Change to f r → Change to f s → r ≡ s
 change-one to f r s = one-outcome

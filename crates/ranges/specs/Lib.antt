@@ -1,0 +1,3 @@
+pub mod Ranges
+pub mod Promises
+pub mod laws
