@@ -67,7 +67,7 @@ pub fn read(file: &str, list: &str) -> Result<Vec<Change>, String> {
         let (key, text) = line.split_once(':').ok_or_else(fault)?;
         let text = text.strip_prefix(' ').unwrap_or(text);
         match (key, &mut last) {
-            ("what", _) => {
+            ("what", _) if old.is_none() => {
                 let next = Change { file: file.to_string(), what: text.to_string(), pairs: Vec::new(), same: None };
                 last.replace(next).map_or(Ok(()), |change| change.finished(&mut all))?;
             }
@@ -78,5 +78,5 @@ pub fn read(file: &str, list: &str) -> Result<Vec<Change>, String> {
         }
     }
     last.map_or(Ok(()), |change| change.finished(&mut all))?;
-    Ok(all)
+    old.map_or(Ok(all), |old| Err(format!("{file}: `{old}` has nothing that comes")))
 }

@@ -9,7 +9,7 @@ pub mod times;
 use crate::sample;
 
 /// So many lines are tried in one file.
-const LINES: usize = 1024;
+const LINES: usize = 256;
 
 /// Texts that are put into a line, each from a position on.
 type Puts = Vec<(usize, Vec<u8>)>;

@@ -1,5 +1,6 @@
 //! What stands in several places of the project is the same in each: the C boundary, contracts and their laws, the pages of
-//! `docs/`; and each edit that must be refused is applied as it was meant.
+//! `docs/`; and each edit that must be refused, and each change that must
+//! be noticed, is applied as it was meant.
 
 #[path = "sources/believed.rs"]
 mod believed;
@@ -9,5 +10,7 @@ mod declarations;
 mod edits;
 #[path = "sources/mistakes.rs"]
 mod mistakes;
+#[path = "sources/mutations.rs"]
+mod mutations;
 #[path = "sources/promises.rs"]
 mod promises;

@@ -8,6 +8,9 @@ use std::process::Command;
 /// What the judge stands on.
 const PARTS: [&str; 5] = ["plain", "vectors", "tried", "lists", "sample"];
 
+/// The judge as the program of one crate with them.
+const MAIN: &str = "fn main() {\n    judge::main()\n}\n";
+
 pub struct Workshop {
     folder: PathBuf,
 }
@@ -39,21 +42,19 @@ impl Workshop {
         for part in PARTS {
             copy_part(&Path::new("checks/src").join(part), &folder.join(part))?;
         }
-        let root = PARTS.map(|part| format!("pub mod {part};\n")).concat();
+        let parts = PARTS.map(|part| format!("mod {part};\n")).concat();
+        let root = format!("extern crate self as graftspindle_checks;\n{parts}mod judge;\n{MAIN}");
         told(folder, write(folder.join("graftspindle.rs"), "pub mod raw;\n"))?;
-        told(folder, write(folder.join("graftspindle_checks.rs"), root))?;
-        workshop.compile("graftspindle", "rlib")?;
+        told(folder, write(folder.join("changed.rs"), root))?;
+        workshop.compile("graftspindle", &["--crate-type", "rlib"])?;
         Ok(workshop)
     }
 
     /// Only what changed is compiled again.
-    fn compile(&self, name: &str, kind: &str) -> Result<(), String> {
+    fn compile(&self, name: &str, words: &[&str]) -> Result<(), String> {
         let mut rustc = Command::new("rustc");
         rustc.current_dir(&self.folder).args(["--edition", "2021", "--cap-lints", "allow", "-L", "."]);
-        rustc.args(["--crate-type", kind, "--crate-name", name, "-C", &format!("incremental=kept-{name}")]);
-        for used in ["graftspindle", "graftspindle_checks"].into_iter().filter(|used| *used != name) {
-            rustc.args(["--extern", used]);
-        }
+        rustc.args(["-C", &format!("incremental=kept-{name}")]).args(words);
         let done = told(&self.folder, rustc.arg(format!("{name}.rs")).output())?;
         if done.status.success() {
             return Ok(());
@@ -63,9 +64,8 @@ impl Workshop {
 
     /// What notices the implementation as it now stands in the folder.
     pub fn judge(&self) -> Result<Option<String>, String> {
-        self.compile("graftspindle_checks", "rlib")?;
-        self.compile("judge", "bin")?;
-        let done = told(&self.folder, Command::new(self.folder.join("judge")).arg("../crates").output())?;
+        self.compile("changed", &["--extern", "graftspindle"])?;
+        let done = told(&self.folder, Command::new(self.folder.join("changed")).arg("../crates").output())?;
         let found = String::from_utf8_lossy(&done.stdout).trim_end().to_string();
         match (done.status.success(), found.is_empty()) {
             (true, true) => Ok(None),
