@@ -3,7 +3,7 @@ use crate::tell::told;
 
 // Has a block of so many bytes the length of a file.
 fn has_length(n: usize) -> bool {
-    let block = [0u8; 512];
+    let block = [0u8; 1024];
     if block.len() < n {
         return false;
     }

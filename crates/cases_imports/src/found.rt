@@ -1,4 +1,5 @@
-// A register of four slots, a letter for each, and what is asked of it.
+// A register of four slots, a letter for each, and what is asked of it. Each answer's number is handed back; aloud, all of it
+// is told.
 use crate::blocks::PART;
 use crate::blocks::lay_parts;
 use libc::STDOUT_FILENO;
@@ -18,21 +19,23 @@ fn place_of(register: &[u8], part: &[u8]) -> u64 {
 
 // The number, and where it is 0 the place of the slot.
 fn tell_found(register: &[u8], part: &[u8], number: u64) {
-    io::write_all(STDOUT_FILENO, b" ->");
-    crate::tell::number(number);
+    crate::tell::first(number);
     if number == 0 {
         io::write_all(STDOUT_FILENO, b" at");
         crate::tell::number(place_of(register, part));
     }
 }
 
-fn by_pan(register: &[u8], f: &[u8]) {
+fn by_pan(register: &[u8], f: &[u8], aloud: bool) -> u64 {
     let mut number: u64 = 0;
     let part = lookups::by_pan(register, texts::field(f, 6, 65536), &mut number);
-    tell_found(register, part, number);
+    if aloud {
+        tell_found(register, part, number);
+    }
+    number
 }
 
-fn by_plate(register: &[u8], f: &[u8]) {
+fn by_plate(register: &[u8], f: &[u8], aloud: bool) -> u64 {
     let mut number: u64 = 0;
     let part = lookups::by_plate(
         register,
@@ -41,23 +44,40 @@ fn by_plate(register: &[u8], f: &[u8]) {
         texts::field(f, 19, 65536),
         &mut number,
     );
-    tell_found(register, part, number);
+    if aloud {
+        tell_found(register, part, number);
+    }
+    number
 }
 
-fn of_slots(tag: &[u8], f: &[u8], register: &[u8]) {
+fn in_order(register: &[u8], aloud: bool) -> u64 {
+    let answer = crate::tell::told(register::in_order(register));
+    if aloud {
+        crate::tell::first(answer);
+    }
+    answer
+}
+
+fn of_slots(tag: &[u8], f: &[u8], register: &[u8], aloud: bool) -> u64 {
     if texts::same(tag, b"ordered ") {
-        crate::tell::truth(register::in_order(register));
-        return;
+        return in_order(register, aloud);
     }
     if texts::same(tag, b"by pan  ") {
-        by_pan(register, f);
-        return;
+        return by_pan(register, f, aloud);
     }
-    by_plate(register, f);
+    by_plate(register, f, aloud)
 }
 
-pub fn of_register(tag: &[u8], f: &[u8], samples: &[u8; 33280]) {
+// In order or not is asked of a register with one place changed too.
+fn change_slots(register: &mut [u8], tag: &[u8], f: &[u8]) {
+    if texts::same(tag, b"ordered ") {
+        vectors::change(register, texts::field(f, 6, 65536));
+    }
+}
+
+pub fn of_register(tag: &[u8], f: &[u8], samples: &[u8; 33280], aloud: bool) -> u64 {
     let mut register = [0u8; 640];
     let end = lay_parts(&mut register, samples, texts::field(f, 1, 4));
-    of_slots(tag, f, &register[0..end]);
+    change_slots(&mut register, tag, f);
+    of_slots(tag, f, &register[0..end], aloud)
 }

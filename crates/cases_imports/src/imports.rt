@@ -1,6 +1,6 @@
 // An import, from one line: mode, reception, rows, register and HGV by their letters, the length of the HGC's buffer, the
 // HGV's where it is not its own, and a place of the HGV changed. Answered are the four numbers and, where the first is 0,
-// the register after it and the HGC.
+// the register after it and the HGC. The first number is handed back; aloud, all is told.
 ghost use Prim.Native.Nat.{_≤_};
 ghost use lib.ListN.{length};
 use crate::blocks::at_most;
@@ -68,8 +68,7 @@ fn tell_blocks(register: &[u8], hgc: &[u8], length: usize)
     crate::tell::kept(is_kept(hgc, length));
 }
 
-fn with_blocks(f: &[u8], samples: &[u8; 33280], register: &mut [u8], hgv: &[u8], hgc: &mut [u8]) {
-    let r = imported(f, samples, register, hgv, hgc);
+fn tell_import(f: &[u8], samples: &[u8; 33280], r: Imported, register: &[u8], hgc: &[u8]) {
     crate::tell::counts(r.number, r.taken, r.rejected);
     crate::tell::number(r.length);
     if r.length == 0 {
@@ -80,18 +79,40 @@ fn with_blocks(f: &[u8], samples: &[u8; 33280], register: &mut [u8], hgv: &[u8],
     tell_blocks(register, hgc, r.length as usize);
 }
 
-fn with_file(f: &[u8], samples: &[u8; 33280], hgv: &[u8]) {
+fn with_blocks(
+    f: &[u8],
+    samples: &[u8; 33280],
+    register: &mut [u8],
+    hgv: &[u8],
+    hgc: &mut [u8],
+    aloud: bool,
+) -> u64 {
+    let r = imported(f, samples, register, hgv, hgc);
+    if aloud {
+        tell_import(f, samples, r, register, hgc);
+    }
+    r.number
+}
+
+fn with_file(f: &[u8], samples: &[u8; 33280], hgv: &[u8], aloud: bool) -> u64 {
     let mut register = [0u8; 640];
     let mut hgc = [UNWRITTEN; 704];
     let end = lay_parts(&mut register, samples, texts::field(f, 20, 23));
     let room = at_most(number_in(texts::field(f, 31, 34)), 704);
-    with_blocks(f, samples, &mut register[0..end], hgv, &mut hgc[0..room]);
+    with_blocks(
+        f,
+        samples,
+        &mut register[0..end],
+        hgv,
+        &mut hgc[0..room],
+        aloud,
+    )
 }
 
-pub fn of_import(f: &[u8], samples: &[u8; 33280]) {
+pub fn of_import(f: &[u8], samples: &[u8; 33280], aloud: bool) -> u64 {
     let mut hgv = [0u8; 704];
     let own = lay_file(&mut hgv, samples, texts::field(f, 25, 29));
     vectors::change(&mut hgv, texts::field(f, 41, 65536));
     let length = sent_length(texts::field(f, 36, 39), own);
-    with_file(f, samples, texts::field(&hgv, 1, length));
+    with_file(f, samples, texts::field(&hgv, 1, length), aloud)
 }

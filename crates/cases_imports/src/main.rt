@@ -1,69 +1,78 @@
 // Runs the vectors on registers, lookups, imports and the provider's side, from the document and docs/DECISIONS.md. `stdin`
 // has one a line: what is asked in eight characters, a blank, and what it is asked of; `stdout` has the same lines, each
-// with its answer. A line that begins with # is a note, and `text` gives the text that a letter names.
+// with its answer. A line that begins with # is a note, and `text` gives the text that a letter names. ~ stands for LF and ^
+// for CR. `each` answers the vector behind it for each value of a run of wild characters in it: # a digit, @ a capital, ? any
+// byte.
 use libc::STDIN_FILENO;
 use libc::STDOUT_FILENO;
 
 mod blocks;
+mod each;
 mod found;
 mod imports;
 mod many;
 mod pairs;
 mod tell;
 
-fn of_pair(tag: &[u8], f: &[u8], samples: &[u8; 33280]) {
+fn of_pair(tag: &[u8], f: &[u8], samples: &[u8; 33280], aloud: bool) -> u64 {
     if texts::same(tag, b"readback") {
-        pairs::of_read(f, samples);
-        return;
+        return pairs::of_read(f, samples, aloud);
     }
     if texts::same(tag, b"update  ") {
-        pairs::of_update(f, samples);
-        return;
+        return pairs::of_update(f, samples, aloud);
     }
-    found::of_register(tag, f, samples);
+    found::of_register(tag, f, samples, aloud)
 }
 
-fn of_block(tag: &[u8], f: &[u8], samples: &[u8; 33280]) {
+// The first number of a vector's answer; aloud, all of it is told.
+pub fn of_block(tag: &[u8], f: &[u8], samples: &[u8; 33280], aloud: bool) -> u64 {
     if texts::same(tag, b"import  ") {
-        imports::of_import(f, samples);
-        return;
+        return imports::of_import(f, samples, aloud);
     }
     if texts::same(tag, b"many    ") {
-        many::of_lines(f, samples);
-        return;
+        return many::of_lines(f, samples, aloud);
     }
     if texts::same(tag, b"slots   ") {
-        many::of_slots(f);
-        return;
+        return many::of_slots(f, aloud);
     }
-    of_pair(tag, f, samples);
+    of_pair(tag, f, samples, aloud)
 }
 
-fn answer(line: &[u8], samples: &mut [u8; 33280]) {
-    let tag = texts::field(line, 1, 8);
-    let f = texts::field(line, 10, 65536);
+fn answer(line: &mut [u8], samples: &mut [u8; 33280]) {
     if texts::same(texts::field(line, 1, 1), b"#") {
         return;
     }
-    if texts::same(tag, b"text    ") {
-        vectors::keep(samples, f);
+    if texts::same(texts::field(line, 1, 8), b"text    ") {
+        vectors::keep(samples, texts::field(line, 10, 65536));
         return;
     }
-    of_block(tag, f, samples);
+    if texts::same(texts::field(line, 1, 8), b"each    ") {
+        io::write_all(STDOUT_FILENO, b" -> ");
+        each::of_run(line, samples);
+        return;
+    }
+    of_block(
+        texts::field(line, 1, 8),
+        texts::field(line, 10, 65536),
+        samples,
+        true,
+    );
 }
 
-fn case(line: &[u8], samples: &mut [u8; 33280]) {
+// A line is told as it was read, and its marks are turned before it is answered.
+fn case(line: &mut [u8], samples: &mut [u8; 33280]) {
     io::write_all(STDOUT_FILENO, line);
+    vectors::mark(line);
     answer(line, samples);
     io::write_all(STDOUT_FILENO, b"\n");
 }
 
-fn each_case(text: &[u8]) {
+fn each_case(text: &mut [u8]) {
     let mut samples = [0u8; 33280];
     let mut i: usize = 0;
     while i < text.len() {
         let end = i + vectors::before(&text[i..], 10);
-        case(&text[i..end], &mut samples);
+        case(&mut text[i..end], &mut samples);
         i = end + 1;
     }
 }
@@ -71,5 +80,5 @@ fn each_case(text: &[u8]) {
 fn main() {
     let mut text = io::large_buffer();
     let n = io::read_full(STDIN_FILENO, &mut text);
-    each_case(&text[..n]);
+    each_case(&mut text[..n]);
 }

@@ -1,4 +1,4 @@
-// Blocks of the largest size.
+// Blocks of the largest size. The first number of the answer is handed back; aloud, all is told.
 ghost use Prim.Native.Nat.{_≤_};
 ghost use lib.ListN.{length};
 use crate::blocks::PART;
@@ -9,21 +9,25 @@ use crate::blocks::number_in;
 const LINES: usize = 8193;
 
 // So many zero bytes as a register.
-fn tell_order(room: &[u8], n: usize) {
+fn in_order(room: &[u8], n: usize, aloud: bool) -> u64 {
     if room.len() < n {
-        return;
+        return 0;
     }
-    crate::tell::truth(register::in_order(&room[0..n]));
+    let answer = crate::tell::told(register::in_order(&room[0..n]));
+    if aloud {
+        crate::tell::first(answer);
+    }
+    answer
 }
 
 // One slot more than a register may have.
-fn with_room(f: &[u8], room: &[u8; 1048704]) {
-    tell_order(room, number_in(f));
+fn with_room(f: &[u8], room: &[u8; 1048704], aloud: bool) -> u64 {
+    in_order(room, number_in(f), aloud)
 }
 
-pub fn of_slots(f: &[u8]) {
+pub fn of_slots(f: &[u8], aloud: bool) -> u64 {
     let room = [0u8; 1048704];
-    with_room(f, &room);
+    with_room(f, &room, aloud)
 }
 
 // A file of n lines B.
@@ -38,7 +42,7 @@ fn lay_lines(hgv: &mut [u8], samples: &[u8; 33280], n: usize)
 }
 
 // Each line is to be rejected.
-fn import_lines(f: &[u8], samples: &[u8; 33280], hgv: &mut [u8], hgc: &mut [u8])
+fn import_lines(f: &[u8], samples: &[u8; 33280], hgv: &mut [u8], hgc: &mut [u8], aloud: bool) -> u64
     requires { ⌜ 1048896 ≤ length (now hgv) ⌝ }
 {
     let n = at_most(number_in(f), LINES);
@@ -52,17 +56,26 @@ fn import_lines(f: &[u8], samples: &[u8; 33280], hgv: &mut [u8], hgc: &mut [u8])
         texts::field(hgv, 1, n * PART + 192),
         hgc,
     );
-    crate::tell::counts(r.number, r.taken, r.rejected);
-    crate::tell::number(r.length);
+    if aloud {
+        crate::tell::counts(r.number, r.taken, r.rejected);
+        crate::tell::number(r.length);
+    }
+    r.number
 }
 
 // The largest HGC.
-fn with_blocks(f: &[u8], samples: &[u8; 33280], hgv: &mut [u8; 1048896], hgc: &mut [u8; 1065134]) {
-    import_lines(f, samples, hgv, hgc);
+fn with_blocks(
+    f: &[u8],
+    samples: &[u8; 33280],
+    hgv: &mut [u8; 1048896],
+    hgc: &mut [u8; 1065134],
+    aloud: bool,
+) -> u64 {
+    import_lines(f, samples, hgv, hgc, aloud)
 }
 
-pub fn of_lines(f: &[u8], samples: &[u8; 33280]) {
+pub fn of_lines(f: &[u8], samples: &[u8; 33280], aloud: bool) -> u64 {
     let mut hgv = [0u8; 1048896];
     let mut hgc = [0u8; 1065134];
-    with_blocks(f, samples, &mut hgv, &mut hgc);
+    with_blocks(f, samples, &mut hgv, &mut hgc, aloud)
 }

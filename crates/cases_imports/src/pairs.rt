@@ -1,5 +1,6 @@
 // An HGV and its HGC, by their letters: the length of each where it is not its own, and a place of the HGV (V) or of the HGC
-// (C) changed. An HGC is read back into a block of so many bytes, or a copy is updated in a mode.
+// (C) changed. An HGC is read back into a block of so many bytes, or a copy is updated in a mode. The first number of the
+// answer is handed back; aloud, all is told.
 ghost use Prim.Native.Nat.{_≤_};
 ghost use lib.ListN.{length};
 use crate::blocks::at_most;
@@ -10,6 +11,7 @@ use crate::blocks::lay_parts;
 use crate::blocks::number_in;
 use crate::blocks::sent_length;
 use libc::STDOUT_FILENO;
+use provider::Counted;
 
 // No verdict.
 const UNWRITTEN: u8 = 238;
@@ -57,30 +59,39 @@ fn tell_verdicts(block: &[u8]) {
     }
 }
 
-fn read_into(block: &mut [u8], hgv: &[u8], hgc: &[u8]) {
+fn read_into(block: &mut [u8], hgv: &[u8], hgc: &[u8], aloud: bool) -> u64 {
     let r = reading::read_back(hgv, hgc, block);
-    crate::tell::counts(r.number, r.taken, r.rejected);
-    tell_verdicts(block);
+    if aloud {
+        crate::tell::counts(r.number, r.taken, r.rejected);
+        tell_verdicts(block);
+    }
+    r.number
 }
 
-fn read(f: &[u8], hgv: &[u8], hgc: &[u8]) {
+fn read(f: &[u8], hgv: &[u8], hgc: &[u8], aloud: bool) -> u64 {
     let mut block = [UNWRITTEN; 9];
     let n = at_most(number_in(texts::field(f, 1, 1)), 9);
-    read_into(&mut block[0..n], hgv, hgc);
+    read_into(&mut block[0..n], hgv, hgc, aloud)
 }
 
-pub fn of_read(f: &[u8], samples: &[u8; 33280]) {
+pub fn of_read(f: &[u8], samples: &[u8; 33280], aloud: bool) -> u64 {
     let mut hgv = [0u8; 704];
     let mut hgc = [0u8; 704];
     let pair = texts::field(f, 3, 65536);
     let sent = lay_sent(&mut hgv, samples, pair);
     let back = lay_back(&mut hgc, samples, pair);
-    read(f, texts::field(&hgv, 1, sent), texts::field(&hgc, 1, back));
+    read(
+        f,
+        texts::field(&hgv, 1, sent),
+        texts::field(&hgc, 1, back),
+        aloud,
+    )
 }
 
-// The copy after it; at a stop, whether it is as it was.
-fn tell_copy(number: u64, f: &[u8], samples: &[u8; 33280], copy: &[u8]) {
-    if number == 0 {
+// The numbers, and the copy after it; at a stop, whether it is as it was.
+fn tell_copy(r: Counted, f: &[u8], samples: &[u8; 33280], copy: &[u8]) {
+    crate::tell::counts(r.number, r.taken, r.rejected);
+    if r.number == 0 {
         io::write_all(STDOUT_FILENO, b"\n");
         crate::tell::slots(copy);
         return;
@@ -89,20 +100,29 @@ fn tell_copy(number: u64, f: &[u8], samples: &[u8; 33280], copy: &[u8]) {
     crate::tell::kept(is_laid(copy, samples, texts::field(f, 3, 6)));
 }
 
-fn update_copy(f: &[u8], samples: &[u8; 33280], copy: &mut [u8], hgv: &[u8], hgc: &[u8]) {
+fn update_copy(
+    f: &[u8],
+    samples: &[u8; 33280],
+    copy: &mut [u8],
+    hgv: &[u8],
+    hgc: &[u8],
+    aloud: bool,
+) -> u64 {
     let mode = number_in(texts::field(f, 1, 1)) as u64;
     let r = updating::update(mode, copy, hgv, hgc);
-    crate::tell::counts(r.number, r.taken, r.rejected);
-    tell_copy(r.number, f, samples, copy);
+    if aloud {
+        tell_copy(r, f, samples, copy);
+    }
+    r.number
 }
 
-fn update(f: &[u8], samples: &[u8; 33280], hgv: &[u8], hgc: &[u8]) {
+fn update(f: &[u8], samples: &[u8; 33280], hgv: &[u8], hgc: &[u8], aloud: bool) -> u64 {
     let mut copy = [0u8; 640];
     let end = lay_parts(&mut copy, samples, texts::field(f, 3, 6));
-    update_copy(f, samples, &mut copy[0..end], hgv, hgc);
+    update_copy(f, samples, &mut copy[0..end], hgv, hgc, aloud)
 }
 
-pub fn of_update(f: &[u8], samples: &[u8; 33280]) {
+pub fn of_update(f: &[u8], samples: &[u8; 33280], aloud: bool) -> u64 {
     let mut hgv = [0u8; 704];
     let mut hgc = [0u8; 704];
     let pair = texts::field(f, 8, 65536);
@@ -113,5 +133,6 @@ pub fn of_update(f: &[u8], samples: &[u8; 33280]) {
         samples,
         texts::field(&hgv, 1, sent),
         texts::field(&hgc, 1, back),
-    );
+        aloud,
+    )
 }

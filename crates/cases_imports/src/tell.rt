@@ -3,12 +3,31 @@ use libc::STDOUT_FILENO;
 
 const SLOT: usize = 128;
 
-pub fn truth(holds: bool) {
-    if holds {
-        io::write_all(STDOUT_FILENO, b" -> yes");
+const NO: u64 = 100;
+
+const YES: u64 = 101;
+
+pub fn told(holds: bool) -> u64 {
+    if holds { YES } else { NO }
+}
+
+// Yes, no or a number.
+pub fn answer(answer: u64) {
+    if answer == NO {
+        io::write_all(STDOUT_FILENO, b"no");
         return;
     }
-    io::write_all(STDOUT_FILENO, b" -> no");
+    if answer == YES {
+        io::write_all(STDOUT_FILENO, b"yes");
+        return;
+    }
+    io::print_decimal(STDOUT_FILENO, answer);
+}
+
+// The first of a vector's answers.
+pub fn first(answer: u64) {
+    io::write_all(STDOUT_FILENO, b" -> ");
+    crate::tell::answer(answer);
 }
 
 pub fn number(n: u64) {
@@ -17,8 +36,7 @@ pub fn number(n: u64) {
 }
 
 pub fn counts(number: u64, taken: u64, rejected: u64) {
-    io::write_all(STDOUT_FILENO, b" ->");
-    crate::tell::number(number);
+    crate::tell::first(number);
     crate::tell::number(taken);
     crate::tell::number(rejected);
 }

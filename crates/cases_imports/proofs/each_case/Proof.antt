@@ -1,15 +1,16 @@
 -- Assumes nothing.
 use lib.ListN.{length}
+use mathlib.Core.Path.{_≡_}
 use Prim.Native.Nat.{_≤_, _-_, _+_}
 use borrow.Author.Needs.{needs}
 use Rattle.cases_imports.proofs.each_case.Statement.{statement}
 use Rattle.cases_imports.proofs.each_case.Tie as tie
 
 abbrev Inv-loop : tie.InvT-loop
-Inv-loop text samples₀ i₀ samples i = i ≤ length text + 1
+Inv-loop text₀ samples₀ i₀ text samples i = (i ≤ length text₀ + 1) × (length text ≡ length text₀)
 
 abbrev μ-loop : tie.MeasureT-loop
-μ-loop text samples₀ i₀ samples i = length text + 1 - i
+μ-loop text₀ samples₀ i₀ text samples i = length text₀ + 1 - i
 
 pub each-case-spec : {M : Type 1} → statement M
 each-case-spec =
@@ -27,6 +28,7 @@ each-case-spec =
     (λ c. search needs)
     (λ c. search needs)
     (λ c κs. search needs)
+    (λ c. search needs)
     (λ c. search needs)
     (λ c. search needs)
     (λ c. search needs)
