@@ -1,5 +1,6 @@
 //! Says by which vector the plain implementation is found out, or by which of the lists; nothing where it is as the paper
-//! says. `host/mutate` compiles it with each change. Its argument is the folder of the crates.
+//! says. `host/mutate` compiles it with each change. Its arguments are the folder of the crates, and the program whose vectors
+//! are asked first.
 
 use graftspindle_checks::tried::{pans, times, trials, Trial};
 use graftspindle_checks::vectors::{first_difference, PROGRAMS};
@@ -7,8 +8,9 @@ use graftspindle_checks::{plain, sample};
 use std::panic::{catch_unwind, set_hook, AssertUnwindSafe};
 use std::path::Path;
 
-fn by_vectors(crates: &Path) -> Option<String> {
-    for (program, ask) in PROGRAMS {
+fn by_vectors(crates: &Path, first: &str) -> Option<String> {
+    let (front, behind): (Vec<_>, Vec<_>) = PROGRAMS.into_iter().partition(|(program, _)| *program == first);
+    for (program, ask) in front.into_iter().chain(behind) {
         let bytes = |name| std::fs::read(crates.join(program).join(name)).expect("the program's vectors");
         if let Some(found) = first_difference(ask, &bytes("stdin"), &bytes("stdout")) {
             return Some(format!("{program}/stdin:{} {}", found.line, found.vector));
@@ -35,17 +37,15 @@ fn is_real(time: &[u8]) -> bool {
 
 fn by_lists() -> Option<String> {
     let of_trial = |trial: Trial| trial.as_records(plain::in_order).or_else(|| trial.as_lines(verdicts));
-    trials()
-        .find_map(of_trial)
-        .or_else(|| pans::all_lengths(plain::in_order))
-        .or_else(|| times::all_times(is_real))
+    trials().find_map(of_trial).or_else(|| pans::all_lengths(plain::in_order)).or_else(|| times::all_times(is_real))
 }
 
 pub fn main() {
-    let crates = std::env::args_os().nth(1).expect("the folder of the crates");
+    let words: Vec<String> = std::env::args().collect();
+    let [_, crates, first] = &words[..] else { panic!("judge CRATES PROGRAM") };
     set_hook(Box::new(|_| {}));
     let lists = || catch_unwind(AssertUnwindSafe(by_lists)).unwrap_or(Some("it panics".to_string()));
-    if let Some(found) = by_vectors(Path::new(&crates)).or_else(|| lists().map(|found| format!("lists {found}"))) {
+    if let Some(found) = by_vectors(Path::new(crates), first).or_else(|| lists().map(|found| format!("lists {found}"))) {
         println!("{found}");
     }
 }

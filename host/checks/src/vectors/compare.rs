@@ -29,20 +29,62 @@ fn shown(text: &[u8]) -> String {
     text.escape_ascii().to_string()
 }
 
-/// The first vector that is not answered as `stdout` says, if there is one.
-pub fn first_difference(ask: Ask, stdin: &[u8], stdout: &[u8]) -> Option<Difference> {
-    let (expected, mut samples, mut at) = (lines(stdout), Samples::none(), 0);
-    for (place, vector) in lines(stdin).into_iter().enumerate() {
-        for line in answered(ask, &mut samples, vector).split(|&b| b == b'\n') {
-            let right = expected.get(at).copied().unwrap_or(b"");
-            at += 1;
-            if line != right {
-                let (expected, answered) = (shown(right), shown(line));
-                return Some(Difference { line: place + 1, vector: shown(vector), at, expected, answered });
-            }
-        }
+/// The vectors of a program beside its `stdout`.
+struct Comparison<'a> {
+    ask: Ask,
+    vectors: Vec<&'a [u8]>,
+    expected: Vec<&'a [u8]>,
+}
+
+impl Comparison<'_> {
+    /// What is written of a vector beside `stdout` from a line on, which counts from 0: the first that is another.
+    fn one(&self, place: usize, answer: &[u8], from: usize) -> Option<Difference> {
+        let mut lines = answer.split(|&b| b == b'\n').zip(from..);
+        let right = |at: usize| self.expected.get(at).copied().unwrap_or(b"");
+        let (line, at) = lines.find(|&(line, at)| line != right(at))?;
+        let (vector, expected, answered) = (shown(self.vectors[place]), shown(right(at)), shown(line));
+        Some(Difference { line: place + 1, vector, at: at + 1, expected, answered })
     }
-    let extra = expected.get(at)?;
-    let (line, vector) = (lines(stdin).len() + 1, String::new());
-    Some(Difference { line, vector, at: at + 1, expected: shown(extra), answered: String::new() })
+
+    /// The vectors of one value each. Where each of `each` stands, which has one line, is handed back with the number of lines.
+    fn single(&self) -> Result<(Vec<(usize, usize)>, usize), Difference> {
+        let (mut samples, mut at, mut later) = (Samples::none(), 0, Vec::new());
+        for (place, vector) in self.vectors.iter().enumerate() {
+            if vector.starts_with(b"each ") {
+                later.push((place, at));
+                at += 1;
+                continue;
+            }
+            let answer = answered(self.ask, &mut samples, vector);
+            self.one(place, &answer, at).map_or(Ok(()), Err)?;
+            at += answer.split(|&b| b == b'\n').count();
+        }
+        Ok((later, at))
+    }
+
+    /// The vectors of many values each, with the texts that stand before each.
+    fn each(&self, later: &[(usize, usize)]) -> Option<Difference> {
+        let (mut samples, mut from) = (Samples::none(), 0);
+        later.iter().find_map(|&(place, at)| {
+            let texts = self.vectors[from..place].iter().filter(|vector| vector.starts_with(b"text "));
+            texts.for_each(|text| drop(written(self.ask, &mut samples, text)));
+            from = place;
+            self.one(place, &answered(self.ask, &mut samples, self.vectors[place]), at)
+        })
+    }
+
+    /// A line of `stdout` that no vector writes.
+    fn left(&self, at: usize) -> Option<Difference> {
+        let (extra, line) = (self.expected.get(at)?, self.vectors.len() + 1);
+        Some(Difference { line, vector: String::new(), at: at + 1, expected: shown(extra), answered: String::new() })
+    }
+}
+
+/// The first vector that is not answered as `stdout` says, if there is one; those of one value before those of many.
+pub fn first_difference(ask: Ask, stdin: &[u8], stdout: &[u8]) -> Option<Difference> {
+    let all = Comparison { ask, vectors: lines(stdin), expected: lines(stdout) };
+    match all.single() {
+        Ok((later, at)) => all.each(&later).or_else(|| all.left(at)),
+        Err(difference) => Some(difference),
+    }
 }

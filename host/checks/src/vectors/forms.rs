@@ -23,8 +23,8 @@ fn is_separator(f: &[u8]) -> bool {
 
 /// The reason of a line by itself, 0 for none.
 fn fault(text: &[u8], of: &[u8]) -> u64 {
-    let rule = verdict::rule_l1_to_l10(text, SENDER, &rows::rows_of(of, SENDER));
-    u64::from(verdict::reason_of(rule, text))
+    let rules = verdict::rules(&[text], SENDER, of, &[]);
+    u64::from(verdict::reason_of(rules[0], text))
 }
 
 fn of_line(samples: &Samples, tag: &[u8], f: &[u8]) -> Option<Answer> {
@@ -40,10 +40,6 @@ fn of_line(samples: &Samples, tag: &[u8], f: &[u8]) -> Option<Answer> {
     }
 }
 
-fn has_length(bytes: usize) -> bool {
-    bytes <= 512 && !hgv::is_25(&vec![0; bytes])
-}
-
 /// An HGV of one line with one place changed.
 fn of_file(samples: &Samples, tag: &[u8], f: &[u8]) -> Option<Answer> {
     let mut file = samples.hgv(b"1X");
@@ -55,7 +51,7 @@ fn of_file(samples: &Samples, tag: &[u8], f: &[u8]) -> Option<Answer> {
         b"count   " => !hgv::is_30(&file),
         b"footer  " => !hgv::is_31(&file),
         b"frames  " => !hgv::is_32(&file),
-        b"length  " => has_length(number(field(f, 1, 3))),
+        b"length  " => !hgv::is_25(&vec![0; number(field(f, 1, 3))]),
         _ => return Answer::number(UNKNOWN),
     })
 }

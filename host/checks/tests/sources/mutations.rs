@@ -25,9 +25,8 @@ fn each_change_can_be_made() {
 #[test]
 fn page_says_what_notices_each() {
     let page = text(&root().join("docs/MUTATIONS.md"));
-    let mut sections = page.split("\n## `").skip(1).peekable();
     let mut rows: Vec<(String, &str)> = Vec::new();
-    while let Some(section) = sections.next() {
+    for section in page.split("\n## `").skip(1) {
         let file = section.split('`').next().expect("a file");
         rows.extend(section.lines().filter(|l| l.starts_with("| ")).skip(1).map(|row| (file.to_string(), row)));
     }
@@ -60,7 +59,8 @@ fn a_bad_change_is_told_apart() {
     for list in bad {
         assert!(read("a.rs", list).is_err(), "{list}");
     }
-    let change = |old: &str| read("a.rs", &format!("# a list\n\nwhat: x\nold: {old}\nnew: c\n")).expect("a list").remove(0);
+    let change =
+        |old: &str| read("a.rs", &format!("# a list\n\nwhat: x\nold: {old}\nnew: c\n")).expect("a list").remove(0);
     let source = "a = 1;\n    b = 1;\n";
     assert_eq!(change("1; b").apply(source), Ok("a = c = 1;\n".to_string()));
     assert_eq!(change("a = 1;").apply(source), Ok("c\n    b = 1;\n".to_string()));

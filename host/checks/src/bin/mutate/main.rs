@@ -36,7 +36,7 @@ pub struct Told {
 fn run(wanted: &str) -> Result<bool, String> {
     let all = changes(Path::new("checks/mutations"))?;
     let workshop = Workshop::open(Path::new("target/mutate"))?;
-    if let Some(found) = workshop.judge()? {
+    if let Some(found) = workshop.judge("")? {
         return Err(format!("without a change: {found}"));
     }
     for change in &all {

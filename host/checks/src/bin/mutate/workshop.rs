@@ -8,6 +8,9 @@ use std::process::Command;
 /// What the judge stands on.
 const PARTS: [&str; 5] = ["plain", "vectors", "tried", "lists", "sample"];
 
+/// The files of `plain` that the vectors of forms ask first of all; the others are asked by those of imports alone.
+const OF_FORMS: [&str; 5] = ["hgv.rs", "line.rs", "rows.rs", "verdict.rs", "words.rs"];
+
 /// The judge as the program of one crate with them.
 const MAIN: &str = "fn main() {\n    judge::main()\n}\n";
 
@@ -53,7 +56,16 @@ impl Workshop {
     /// Only what changed is compiled again.
     fn compile(&self, name: &str, words: &[&str]) -> Result<(), String> {
         let mut rustc = Command::new("rustc");
-        rustc.current_dir(&self.folder).args(["--edition", "2021", "--cap-lints", "allow", "-L", "."]);
+        rustc.current_dir(&self.folder).args([
+            "--edition",
+            "2021",
+            "--cap-lints",
+            "allow",
+            "-C",
+            "opt-level=2",
+            "-L",
+            ".",
+        ]);
         rustc.args(["-C", &format!("incremental=kept-{name}")]).args(words);
         let done = told(&self.folder, rustc.arg(format!("{name}.rs")).output())?;
         if done.status.success() {
@@ -62,10 +74,11 @@ impl Workshop {
         Err(format!("rustc refuses {name}:\n{}", String::from_utf8_lossy(&done.stderr)))
     }
 
-    /// What notices the implementation as it now stands in the folder.
-    pub fn judge(&self) -> Result<Option<String>, String> {
+    /// What notices the implementation as it now stands in the folder, with a change in this file.
+    pub fn judge(&self, file: &str) -> Result<Option<String>, String> {
         self.compile("changed", &["--extern", "graftspindle"])?;
-        let done = told(&self.folder, Command::new(self.folder.join("changed")).arg("../crates").output())?;
+        let first = if OF_FORMS.contains(&file) { "cases_forms" } else { "cases_imports" };
+        let done = told(&self.folder, Command::new(self.folder.join("changed")).args(["../crates", first]).output())?;
         let found = String::from_utf8_lossy(&done.stdout).trim_end().to_string();
         match (done.status.success(), found.is_empty()) {
             (true, true) => Ok(None),
@@ -87,7 +100,7 @@ impl Workshop {
         let (source, after) = self.changed(change)?;
         let path = self.folder.join("plain").join(&change.file);
         told(&path, write(&path, after))?;
-        let noticed = self.judge().map_err(|fault| format!("{}: {}: {fault}", change.file, change.what))?;
+        let noticed = self.judge(&change.file).map_err(|fault| format!("{}: {}: {fault}", change.file, change.what))?;
         told(&path, write(&path, source))?;
         Ok(noticed)
     }
