@@ -45,7 +45,8 @@ pub fn main() {
     let [_, crates, first] = &words[..] else { panic!("judge CRATES PROGRAM") };
     set_hook(Box::new(|_| {}));
     let lists = || catch_unwind(AssertUnwindSafe(by_lists)).unwrap_or(Some("it panics".to_string()));
-    if let Some(found) = by_vectors(Path::new(crates), first).or_else(|| lists().map(|found| format!("lists {found}"))) {
+    if let Some(found) = by_vectors(Path::new(crates), first).or_else(|| lists().map(|found| format!("lists {found}")))
+    {
         println!("{found}");
     }
 }
