@@ -21,18 +21,30 @@ fn plain_answers_every_vector() {
     }
 }
 
-/// Where an answer of `stdout` is another, its vector is named; so is a line too few or too many.
+/// Where an answer is another, its vector is named; so is a line too few or too many.
 #[test]
 fn a_changed_answer_is_told_apart() {
-    for (program, ask) in PROGRAMS {
-        let (stdin, stdout) = files(program);
-        let lines: Vec<&[u8]> = stdout.split_inclusive(|&b| b == b'\n').collect();
-        let at = lines.iter().position(|line| line.ends_with(b" -> yes\n")).expect("an answer");
-        let named = |changed: Vec<&[u8]>| first_difference(ask, &stdin, &changed.concat()).map(|d| d.at);
-        let other = [lines[at].strip_suffix(b"yes\n").expect("an answer"), b"no\n"].concat();
-        assert_eq!(named([&lines[..at], &[&other], &lines[at + 1..]].concat()), Some(at + 1));
-        assert_eq!(named([&lines[..at], &lines[at + 1..]].concat()), Some(at + 1));
-        assert_eq!(named([&lines[..], &[b"more\n"]].concat()), Some(lines.len() + 1));
-        assert_eq!(named(lines[..lines.len() - 1].to_vec()), Some(lines.len()));
+    let stdin = b"# PANs\npan      1                  \neach     pan      #                  \npan      x\n";
+    let stdout: [&[u8]; 4] = [
+        b"# PANs\n",
+        b"pan      1                   -> yes\n",
+        b"each     pan      #                   -> 0-9: yes\n",
+        b"pan      x -> no\n",
+    ];
+    let named = |lines: &[&[u8]]| first_difference(PROGRAMS[0].1, stdin, &lines.concat()).map(|d| (d.line, d.at));
+    assert_eq!(named(&stdout), None);
+    let changes: [(usize, &[u8]); 4] = [
+        (0, b"# PAN\n"),
+        (1, b"pan      1                   -> no\n"),
+        (2, b"each     pan      #                   -> 0-8: yes, 9: no\n"),
+        (3, b"pan      x -> yes\n"),
+    ];
+    for (at, other) in changes {
+        let mut changed = stdout;
+        changed[at] = other;
+        assert_eq!(named(&changed), Some((at + 1, at + 1)));
     }
+    assert_eq!(named(&[&stdout[..], &[b"more\n"]].concat()), Some((5, 5)));
+    assert_eq!(named(&stdout[..3]), Some((4, 4)));
+    assert_eq!(named(&[stdout[0], stdout[2], stdout[3]]), Some((2, 2)));
 }

@@ -3,11 +3,13 @@
 //! that was shown to be none is noticed, and where one cannot be made. An argument leaves those changes that have it in them.
 //! It stands on nothing but the standard library, so that `host/mutate` compiles it without the proved library.
 
+mod kept;
 #[path = "../../mutations.rs"]
 mod mutations;
 mod page;
 mod workshop;
 
+use kept::Kept;
 use mutations::Change;
 use std::fs::{read_dir, read_to_string};
 use std::path::Path;
@@ -42,9 +44,10 @@ fn run(wanted: &str) -> Result<bool, String> {
     for change in &all {
         workshop.changed(change)?;
     }
+    let mut kept = Kept::open(Path::new("target/mutate-kept"), &workshop.inputs())?;
     let mut told = Vec::new();
     for change in all.into_iter().filter(|change| format!("{} {}", change.file, change.what).contains(wanted)) {
-        let noticed = workshop.try_change(&change)?;
+        let noticed = kept.told(&change, |change| workshop.try_change(change))?;
         if noticed.is_none() || change.same.is_some() {
             eprintln!("{}: {}: {}", change.file, change.what, noticed.as_deref().unwrap_or("not noticed"));
         }

@@ -32,6 +32,16 @@ fn copy_part(from: &Path, to: &Path) -> Result<(), String> {
     Ok(())
 }
 
+/// The Rust files of a folder and of those in it, by name.
+fn files(folder: &Path) -> Vec<PathBuf> {
+    let entries = read_dir(folder).into_iter().flatten().flatten().map(|entry| entry.path());
+    let of_entry = |path: PathBuf| if path.is_dir() { files(&path) } else { vec![path] };
+    let mut all: Vec<PathBuf> =
+        entries.flat_map(of_entry).filter(|path| path.extension().is_some_and(|e| e == "rs")).collect();
+    all.sort();
+    all
+}
+
 impl Workshop {
     /// Copies what is needed, and compiles what no change touches.
     pub fn open(folder: &Path) -> Result<Workshop, String> {
@@ -51,6 +61,15 @@ impl Workshop {
         told(folder, write(folder.join("changed.rs"), root))?;
         workshop.compile("graftspindle", &["--crate-type", "rlib"])?;
         Ok(workshop)
+    }
+
+    /// All that the judge's answer hangs on, but for the change.
+    pub fn inputs(&self) -> Vec<PathBuf> {
+        let mut all = files(&self.folder);
+        for program in ["cases_forms", "cases_imports"] {
+            all.extend(["stdin", "stdout"].map(|name| Path::new("../crates").join(program).join(name)));
+        }
+        all
     }
 
     /// Only what changed is compiled again.
