@@ -43,18 +43,19 @@ pub fn faulty_line(i: usize) -> String {
     line(i).replace("Euro6", "Euro9")
 }
 
-pub fn hgv_of(lines: &[String]) -> Vec<u8> {
-    let mut file = format!(
+pub fn hgv_of<L: AsRef<[u8]>>(lines: &[L]) -> Vec<u8> {
+    let header = format!(
         "0{SENDER}000002HGV{SENDER}2025031001HGV{:016}{:014}{:015}20250310040000120001{:027}\n",
         0,
         0,
         lines.len(),
         0
     );
-    assert_eq!(file.len(), 128);
-    file += &lines.concat();
-    file += &format!("2{:062}\n", 0);
-    file.into_bytes()
+    assert_eq!(header.len(), 128);
+    let mut file = header.into_bytes();
+    lines.iter().for_each(|line| file.extend(line.as_ref()));
+    file.extend(format!("2{:062}\n", 0).into_bytes());
+    file
 }
 
 /// A file of so many lines, each with a PAN and a plate of its own.

@@ -24,3 +24,5 @@ mod provider;
 mod registers;
 #[path = "definition/size.rs"]
 mod size;
+#[path = "definition/vectors.rs"]
+mod vectors;

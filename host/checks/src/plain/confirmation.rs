@@ -8,10 +8,6 @@ pub const HEADER: usize = 110;
 pub const LINE: usize = 130;
 pub const FOOTER: usize = 64;
 
-pub fn length(rejected: usize) -> usize {
-    HEADER + LINE * rejected + FOOTER
-}
-
 fn header(hgv: &[u8], reception: &[u8], taken: usize, rejected: usize) -> Vec<u8> {
     let mut header = Vec::new();
     header.extend(b"0000002");

@@ -33,7 +33,7 @@ pub fn version(hgv: &[u8]) -> &[u8] {
     positions(hgv, 95, 100)
 }
 
-fn is_25(hgv: &[u8]) -> bool {
+pub fn is_25(hgv: &[u8]) -> bool {
     if hgv.len() < HEADER + FOOTER {
         return true;
     }
@@ -54,7 +54,7 @@ fn previous_right(previous: &[u8], sender: &[u8]) -> bool {
 }
 
 /// Every byte of the header but the version belongs to a field with a form.
-fn is_26(hgv: &[u8]) -> bool {
+pub fn is_26(hgv: &[u8]) -> bool {
     let sender = sender(hgv);
     let right = hgv[0] == b'0'
         && all_digits(sender)
@@ -69,7 +69,7 @@ fn is_26(hgv: &[u8]) -> bool {
     !right
 }
 
-fn is_27(hgv: &[u8]) -> bool {
+pub fn is_27(hgv: &[u8]) -> bool {
     version(hgv) != b"120001" && version(hgv) != b"220001"
 }
 
@@ -82,7 +82,7 @@ pub fn is_29_receiver(hgv: &[u8]) -> bool {
     receiver(hgv) != b"000002"
 }
 
-fn is_30(hgv: &[u8]) -> bool {
+pub fn is_30(hgv: &[u8]) -> bool {
     number_of(positions(hgv, 66, 80)) != Some(lines(hgv).len() as u64)
 }
 
@@ -91,7 +91,7 @@ pub fn footer_right(footer: &[u8]) -> bool {
     footer.len() == FOOTER && footer[0] == b'2' && all_zeros(positions(footer, 2, 63)) && footer[63] == LF
 }
 
-fn is_31(hgv: &[u8]) -> bool {
+pub fn is_31(hgv: &[u8]) -> bool {
     !footer_right(&hgv[hgv.len() - FOOTER..])
 }
 
@@ -99,7 +99,7 @@ fn line_right(line: &[u8]) -> bool {
     line[0] == b'1' && line[127] == LF && positions(line, 2, 127).iter().all(|&b| b >= 32)
 }
 
-fn is_32(hgv: &[u8]) -> bool {
+pub fn is_32(hgv: &[u8]) -> bool {
     !lines(hgv).into_iter().all(line_right)
 }
 

@@ -14,9 +14,14 @@ fn has_used_form(slot: &[u8]) -> bool {
     slot[0] == b'1' && slot[127] == LF
 }
 
+/// What the text of a used slot must be.
+pub fn holds_as_record(slot: &[u8]) -> bool {
+    all_digits(line::actor(slot)) && line::holds_l1_l5_to_l10(slot)
+}
+
 /// What a used slot must be, the other slots left aside.
 fn record_right(slot: &[u8]) -> bool {
-    has_used_form(slot) && all_digits(line::actor(slot)) && line::holds_l1_l5_to_l10(slot)
+    has_used_form(slot) && holds_as_record(slot)
 }
 
 /// In a register in order these are the used ones: they stand in front.

@@ -1,83 +1,76 @@
-//! Whole ranges: every value of a small field, every length, every changed byte.
+//! Whole ranges: every value that the paper lists and every value that it leaves out, every length, every changed byte; all
+//! implementations beside the lists.
 
 use crate::common::*;
 use graftspindle_checks::generate::line::{right_separators, wrong_separators};
 use graftspindle_checks::generate::line::{PLATE_CHARACTERS, WRONG_FIELDS};
-use graftspindle_checks::generate::world::check_digit;
-use graftspindle_checks::plain::line::{breaks_l10, is_plate_character, luhn_sum, separator_right};
-use graftspindle_checks::plain::words::{is_real_date, is_real_time};
+use graftspindle_checks::plain::line::{breaks_l10, separator_right};
+use graftspindle_checks::tried::{pans, times, trials};
+use graftspindle_checks::{lists, sample};
+
+/// The verdicts of lines with the sample's sender, in an import that is read back.
+fn told(engine: &Engine, lines: &[Vec<u8>]) -> Vec<u8> {
+    let file = sample::hgv_of(lines);
+    let outcome = run(engine, 1, R0, &free(lines.len()), &sample::row(), &file, 174 + 130 * lines.len());
+    verdicts(engine, &file, &outcome)
+}
+
+#[test]
+fn fields_as_lines_and_as_records() {
+    for trial in trials() {
+        for engine in ENGINES {
+            let other = trial.as_lines(|lines| told(engine, lines)).or_else(|| trial.as_records(engine.in_order));
+            assert_eq!(other, None, "{}", engine.name);
+        }
+    }
+}
+
+/// Is the time of a lookup taken for a real one. The register is empty.
+fn is_real(engine: &Engine, time: &[u8]) -> bool {
+    match (engine.by_plate)(&[], b"ABC123    ", b"NO ", time).0 {
+        22 => false,
+        number => number == 41,
+    }
+}
 
 #[test]
 fn dates_of_all_years() {
-    let mut real = 0;
-    for year in 0..=9999 {
-        for month in 0..=13 {
-            for day in 0..=32 {
-                let date = format!("{year:04}{month:02}{day:02}");
-                real += u64::from(is_real_date(date.as_bytes()));
-            }
-        }
+    for engine in ENGINES {
+        assert_eq!(times::all_dates(|time| is_real(engine, time)), None, "{}", engine.name);
     }
     // 24 cycles of 400 years, and 399 years more; a cycle has 146,097 days, year 400 is a leap year.
-    assert_eq!(real, 24 * 146_097 + 146_097 - 366);
+    assert_eq!(times::real_dates(), 24 * 146_097 + 146_097 - 366);
 }
 
 #[test]
 fn times_of_a_day() {
-    let all = (0..100).flat_map(|h| (0..100).map(move |m| (h, m)));
-    for (hour, minute) in all {
-        for second in 0..100 {
-            let time = format!("20250310{hour:02}{minute:02}{second:02}");
-            assert_eq!(is_real_time(time.as_bytes()), hour < 24 && minute < 60 && second < 60);
-        }
-    }
-}
-
-#[test]
-fn plate_characters_and_separators() {
-    for byte in 0..=255u8 {
-        assert_eq!(is_plate_character(byte), PLATE_CHARACTERS.contains(&byte));
-    }
-    for k in 1..=10 {
-        assert!(right_separators(k).iter().all(|pq| separator_right(pq, k as u64)));
-        assert!(!wrong_separators(k).iter().any(|pq| separator_right(pq, k as u64)));
-    }
-}
-
-#[test]
-fn fuels_engines_tariffs_and_weights() {
-    let right = |from: usize, text: String| !breaks_l10(&with(LINE0, from, text.as_bytes()));
-    let fuels: Vec<u32> = (0..100).filter(|n| right(86, format!("{n:02}"))).collect();
-    assert_eq!(fuels, [1, 2, 3, 4, 5, 6, 9, 10, 11, 12, 13, 14, 15, 20, 21, 22]);
-    let engines: Vec<u32> = (0..1000).filter(|n| right(92, format!("{n:03}"))).collect();
-    assert_eq!(engines, (0..=52).chain([255]).collect::<Vec<u32>>());
-    let tariffs: Vec<u32> = (0..100).filter(|n| right(46, format!("{n:02}"))).collect();
-    assert_eq!(tariffs, [12, 22, 31, 32, 41, 51, 63, 71]);
-    let weights = (0..10_000).filter(|n| right(97, format!("{n:04}"))).count();
-    assert_eq!(weights, 351);
-}
-
-#[test]
-fn wrong_fields_of_the_generator_break_l10() {
-    for (from, wrong) in WRONG_FIELDS {
-        for field in wrong {
-            assert!(breaks_l10(&with(LINE0, from, field)), "{from} {field:?}");
-        }
+    for engine in ENGINES {
+        assert_eq!(times::all_times(|time| is_real(engine, time)), None, "{}", engine.name);
     }
 }
 
 #[test]
 fn check_digits_of_all_lengths() {
-    for length in 0..19 {
-        for start in 0..50u64 {
-            let number = start.wrapping_mul(0x9E37_79B9_7F4A_7C15);
-            let mut pan = format!("{number:019}").into_bytes()[..length].to_vec();
-            let right = check_digit(&pan);
-            for last in b'0'..=b'9' {
-                pan.push(last);
-                assert_eq!(luhn_sum(&pan).is_multiple_of(10), last == right);
-                pan.pop();
-            }
+    for engine in ENGINES {
+        assert_eq!(pans::all_lengths(engine.in_order), None, "{}", engine.name);
+    }
+}
+
+/// What the generator takes for right and wrong is what the paper lists.
+#[test]
+fn lists_of_the_generator() {
+    assert_eq!(PLATE_CHARACTERS, lists::PLATE);
+    for k in 1..=10 {
+        let listed: Vec<&[u8]> = lists::SEPARATORS[k - 1].split(' ').map(str::as_bytes).collect();
+        assert!(right_separators(k).iter().all(|pq| listed.contains(&&pq[..])));
+        assert!(!wrong_separators(k).iter().any(|pq| listed.contains(&&pq[..])));
+        assert!((0..100)
+            .map(|n| format!("{n:02}").into_bytes())
+            .all(|pq| separator_right(&pq, k as u64) == listed.contains(&&pq[..])));
+    }
+    for (from, wrong) in WRONG_FIELDS {
+        for field in wrong {
+            assert!(breaks_l10(&with(LINE0, from, field)), "{from} {field:?}");
         }
     }
 }

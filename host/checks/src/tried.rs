@@ -1,0 +1,79 @@
+//! Whatever `lists` has, tried in full: every value of a field as a line of a file and as a record of a register, every date
+//! and every time. An implementation is handed over as the function that is asked.
+
+pub mod fields;
+pub mod pans;
+pub mod plates;
+pub mod times;
+
+use crate::sample;
+
+/// So many lines are tried in one file.
+const LINES: usize = 256;
+
+/// Texts that are put into a line, each from a position on.
+type Puts = Vec<(usize, Vec<u8>)>;
+
+/// The values of one field, each as a line and whether the lists allow it.
+pub struct Trial {
+    pub name: String,
+    /// The reason of a line that the lists do not allow.
+    reason: u8,
+    all: Vec<(Vec<u8>, bool)>,
+}
+
+impl Trial {
+    /// Each line of the trial has a PAN of its own.
+    fn of(name: String, reason: u8, values: impl IntoIterator<Item = (Puts, bool)>) -> Trial {
+        let lines = values.into_iter().enumerate().map(|(i, (puts, right))| (line(i, &puts), right));
+        Trial { name, reason, all: lines.collect() }
+    }
+
+    /// The first value that is answered otherwise, with every value in a file of lines that is judged as a whole. A byte
+    /// below 32 in a line stops the file (32), so the values that have one are left out.
+    pub fn as_lines(&self, verdicts: impl Fn(&[Vec<u8>]) -> Vec<u8>) -> Option<String> {
+        let all: Vec<&(Vec<u8>, bool)> =
+            self.all.iter().filter(|(line, _)| line[1..127].iter().all(|&b| b >= 32)).collect();
+        for chunk in all.chunks(LINES) {
+            let lines: Vec<Vec<u8>> = chunk.iter().map(|(line, _)| line.clone()).collect();
+            let told = verdicts(&lines);
+            assert_eq!(told.len(), lines.len(), "{}: a verdict for each line", self.name);
+            for ((line, right), verdict) in chunk.iter().zip(told) {
+                if verdict != if *right { 0 } else { self.reason } {
+                    return Some(self.told(line, &format!("reason {verdict:02}")));
+                }
+            }
+        }
+        None
+    }
+
+    /// The same, with each value in a register of one record.
+    pub fn as_records(&self, in_order: impl Fn(&[u8]) -> bool) -> Option<String> {
+        let other = |(line, right): &&(Vec<u8>, bool)| in_order(line) != *right;
+        self.all.iter().find(other).map(|(line, right)| self.told(line, if *right { "refused" } else { "let in" }))
+    }
+
+    fn told(&self, line: &[u8], answer: &str) -> String {
+        format!("{}: {answer}: {}", self.name, line.escape_ascii())
+    }
+}
+
+/// The i-th line of a sample with these texts put into it.
+fn line(i: usize, puts: &Puts) -> Vec<u8> {
+    let mut line = sample::line(i).into_bytes();
+    for (from, text) in puts {
+        line[from - 1..from - 1 + text.len()].copy_from_slice(text);
+    }
+    line
+}
+
+/// All texts of so many digits.
+fn digits(width: usize) -> impl Iterator<Item = String> {
+    (0..10usize.pow(width as u32)).map(move |n| format!("{n:0width$}"))
+}
+
+/// Every trial that has lines, each made when it is asked for.
+pub fn trials() -> impl Iterator<Item = Trial> {
+    let all = [fields::listed, fields::emissions, fields::bytes, plates::trials, times::trials, fields::weights];
+    all.into_iter().chain([times::dates as fn() -> Vec<Trial>]).flat_map(|made| made())
+}

@@ -1,0 +1,52 @@
+//! The vectors on registers, lookups, imports and the provider's side; of these the import: mode, reception, rows, register
+//! and HGV by their letters, the length of the HGC's buffer, the HGV's where it is not its own, and a place of the HGV changed.
+
+use super::answer::{kept, slots};
+use super::blocks::{change, field, letters, number, rest, sent};
+use super::{found, many, pairs, Answer, Samples};
+use crate::plain;
+
+/// A byte that stands in none of these HGCs.
+const UNWRITTEN: u8 = 238;
+
+/// Behind the number.
+pub fn counted(taken: u64, rejected: u64) -> String {
+    format!(" {taken} {rejected}")
+}
+
+fn is_kept(block: &[u8]) -> bool {
+    block.iter().all(|&b| b == UNWRITTEN)
+}
+
+fn of_import(samples: &Samples, f: &[u8]) -> Option<Answer> {
+    let hgv = sent(samples.hgv(field(f, 25, 29)), field(f, 36, 39), |hgv| change(hgv, rest(f, 41)));
+    let before = samples.parts(field(f, 20, 23));
+    let rows = samples.laid(24, letters(field(f, 18, 18), 1));
+    let mut register = before.clone();
+    let mut hgc = vec![UNWRITTEN; number(field(f, 31, 34)).min(704)];
+    let mode = number(field(f, 1, 1)) as u64;
+    let done = plain::import(mode, field(f, 3, 16), &mut register, &rows, &hgv, &mut hgc);
+    let mut behind = format!("{} {}", counted(done.taken, done.rejected), done.length).into_bytes();
+    let length = done.length as usize;
+    if length == 0 {
+        behind.push(b' ');
+        behind.extend(kept(register == before && is_kept(&hgc)));
+    } else {
+        behind.push(b'\n');
+        behind.extend(slots(&register));
+        behind.extend(&hgc[..length]);
+        behind.extend(kept(is_kept(&hgc[length..])));
+    }
+    Some(Answer { first: done.number.to_string(), behind })
+}
+
+pub fn answer(samples: &Samples, tag: &[u8], f: &[u8]) -> Option<Answer> {
+    match tag {
+        b"import  " => of_import(samples, f),
+        b"many    " => many::of_lines(samples, f),
+        b"slots   " => many::of_slots(f),
+        b"readback" => pairs::of_read(samples, f),
+        b"update  " => pairs::of_update(samples, f),
+        _ => found::answer(samples, tag, f),
+    }
+}
