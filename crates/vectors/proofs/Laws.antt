@@ -6,7 +6,7 @@ use Prim.Native.Nat.{ℕ, suc, _<_, _≤_, _+_, _-_, _*_}
 use native.Mathlib.Numerals.{add-one}
 use native.Mathlib.Omega.{arith}
 use lib.Dec.{leb}
-use lib.ListN.{length, take, drop, getD, set, length-set, length-append, length-take, length-drop, drop-of-length-le}
+use lib.ListN.{length, take, drop, getD, set, length-append, length-take, length-drop, drop-of-length-le}
 use lib.Seq.{take-all, take-suc, take-suc-set, drop-cons, drop-set-lt}
 use borrow.Author.Tests.{eq-eqb, ne-eqb, le-leb, lt-leb, leb-true}
 use Rattle.theory.specs.laws.Truth.{same-truth, and-both, and-left, and-right}

@@ -17,7 +17,6 @@ use Rattle.theory.specs.laws.Pick.{each-picked}
 use Rattle.theory.specs.Tally.{tally}
 use Rattle.theory.specs.laws.Tally.{tally-pick, tallies}
 use Rattle.theory.specs.laws.Scan.{some-key, each-verdict}
-use Rattle.texts.specs.Field.{field}
 use Rattle.numbers.specs.Number.{number, decimal}
 use Rattle.numbers.specs.laws.Number.{number-2, number-15}
 use Rattle.times.specs.laws.Moment.{real-length}

@@ -2,8 +2,7 @@
 use mathlib.Core.Path.{_≡_, refl}
 use mathlib.Core.Bool.{Bool, true}
 use mathlib.Core.List.{List}
-use Prim.Native.Nat.{ℕ, _≤_}
-use lib.ListN.{length}
+use Prim.Native.Nat.{ℕ}
 use Rattle.theory.specs.Text.{bytes}
 use Rattle.theory.specs.Same.{eqs, mem}
 use Rattle.theory.specs.Parts.{chop}
