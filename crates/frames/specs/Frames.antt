@@ -1,7 +1,7 @@
--- The HGV's footer and its lines' frames: stops 31 and 32. Assumes nothing.
+-- The HGV's footer, which is the HGC's too, and its lines' frames: stops 31 and 32. Assumes nothing.
 use Prim.Native.Nat.{ℕ, _-_}
 use mathlib.Core.Bool.{Bool, _&&_}
-use mathlib.Core.List.{List}
+use mathlib.Core.List.{List, _++_}
 use lib.Dec.{eqb}
 use lib.ListN.{length}
 use Rattle.theory.specs.Text.{bytes}
@@ -11,11 +11,16 @@ use Rattle.theory.specs.Walk.{each}
 use Rattle.sizes.specs.Sizes.{footerLength}
 use Rattle.texts.specs.Field.{field, lineEnd}
 use Rattle.fields.specs.Field.{zeroDigit, plain}
+use Rattle.numbers.specs.Number.{zeros}
 use Rattle.hgv.specs.Layout.{widthOf, linesOf, footer}
 
 -- `2`, 62 zeros, LF
 unfoldable pub footerForm : List ℕ → Bool
 footerForm f = eqb (length f) footerLength && eqs (field 1 1 f) (bytes "2") && run zeroDigit 62 (field 2 63 f) && eqs (field footerLength footerLength f) lineEnd
+
+-- as it is written
+unfoldable pub foot : List ℕ
+foot = bytes "2" ++ zeros 62 ++ lineEnd
 
 -- stop 31 is given where this does not hold
 unfoldable pub footerHolds : List ℕ → Bool

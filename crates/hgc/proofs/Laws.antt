@@ -16,17 +16,20 @@ use Rattle.theory.specs.Join.{flat}
 use Rattle.theory.specs.laws.Join.{flat-append, chop-snoc, each-chop}
 use Rattle.texts.specs.Field.{field, lineEnd}
 use Rattle.texts.specs.laws.Field.{field-length}
+use Rattle.texts.specs.laws.Pieces.{length-pieces}
 use Rattle.writing.specs.Put.{putField}
-use Rattle.writing.specs.laws.Laid.{Laid, laid, laid-start, laid-join, laid-next, laid-front, laid-length}
-use Rattle.numbers.specs.Number.{decimal}
-use Rattle.numbers.specs.laws.Number.{length-decimal}
+use Rattle.writing.specs.laws.Laid.{Laid, laid, laid-start, laid-join, laid-next, laid-front, laid-length, all-done, then, in-turn}
+use Rattle.numbers.specs.Number.{decimal, zeros}
+use Rattle.numbers.specs.laws.Number.{length-decimal, length-zeros}
 use Rattle.columns.specs.Columns.{text}
 use Rattle.hgv.specs.Layout.{widthOf, linesIn, lengthHolds, body, linesOf}
 use Rattle.hgv.specs.laws.Layout.{width-has, lines-room, each-line, length-least}
 use Rattle.sizes.specs.Sizes.{headerLength, lineMost, linesMost, hgcHeaderLength}
 use Rattle.header.specs.Header.{sender, listSequence}
-use Rattle.hgc.specs.Confirmation.{answerLength, confirmationLength, zeros, outcome, names, counts, head, answer, answers, foot, confirmation}
-use Rattle.hgc.specs.laws.Confirmation.{said, Holding, length-zeros, length-outcome, length-names, length-counts, length-text, length-answer, length-foot, answers-none, answers-most, answers-more, length-answers}
+use Rattle.frames.specs.Frames.{foot}
+use Rattle.frames.specs.laws.Frames.{length-foot}
+use Rattle.hgc.specs.Confirmation.{answerLength, confirmationLength, outcome, nameTexts, countTexts, head, answer, answers, confirmation}
+use Rattle.hgc.specs.laws.Confirmation.{said, Holding, length-outcome, names-wide, counts-wide, length-text, length-answer, answers-none, answers-most, answers-more, length-answers}
 
 -- a field, as its reader has it
 pub wide : (from to : ℕ) (l f : List ℕ) → f ≡ field from to l → 1 ≤ from → to ≤ length l → length f ≡ to + 1 - from
@@ -44,31 +47,30 @@ outcome-some (suc k) n = refl
 -- s₁ to s₅ are the block after each field
 pub names-written : (reception h s₀ s₁ s₂ s₃ s₄ s₅ f g : List ℕ) → 46 ≤ length s₀ → length reception ≡ 14 → headerLength ≤ length h → f ≡ sender h → g ≡ listSequence h
     → s₁ ≡ putField 1 (bytes "0") s₀ → s₂ ≡ putField 2 (bytes "000002") s₁ → s₃ ≡ putField 8 f s₂ → s₄ ≡ putField 14 g s₃ → s₅ ≡ putField 33 reception s₄
-    → s₅ ≡ putField 1 (names reception h) s₀
-unfolding names
+    → s₅ ≡ putField 1 (flat (nameTexts reception h)) s₀
 names-written reception h s₀ s₁ s₂ s₃ s₄ s₅ f g n d l ef eg e₁ e₂ e₃ e₄ e₅ =
     let nf : length f ≡ 6 = wide 2 7 h f ef (omega arith) (omega arith) in
     let ng : length g ≡ 19 = wide 14 32 h g eg (omega arith) (omega arith) in
-    let v₁ = laid 1 2 (bytes "0") s₀ s₁ e₁ refl (omega arith) (omega arith) in
-    let v₂ = laid-next 1 2 _ s₀ s₁ v₁ (bytes "000002") s₂ 8 e₂ refl (omega arith) in
-    let v₃ = laid-next 1 8 _ s₀ s₂ v₂ f s₃ 14 e₃ (omega arith) (omega arith) in
-    let v₄ = laid-next 1 14 _ s₀ s₃ v₃ g s₄ 33 e₄ (omega arith) (omega arith) in
-    let v₅ = laid-next 1 33 _ s₀ s₄ v₄ reception s₅ 47 e₅ (omega arith) (omega arith) in
-    v₅ .is ∙ rw (ef, eg)
+    in-turn {r = 47}
+    (then {q = 2} e₁ refl
+    (then {q = 8} e₂ refl
+    (then {q = 14} e₃ (omega arith)
+    (then {q = 33} e₄ (omega arith)
+    (then {q = 47} e₅ (omega arith) all-done))))) (omega arith) (omega arith)
+    ∙ rw (ef, eg)
 
 pub counts-written : (taken rejected : ℕ) (s₀ s₁ s₂ s₃ s₄ s₅ s₆ : List ℕ) → 110 ≤ length s₀
     → s₁ ≡ putField 47 (decimal 15 taken) s₀ → s₂ ≡ putField 62 (decimal 15 rejected) s₁ → s₃ ≡ putField 77 (bytes "120001") s₂
     → s₄ ≡ putField 83 (zeros 25) s₃ → s₅ ≡ putField 108 (outcome rejected) s₄ → s₆ ≡ putField 110 lineEnd s₅
-    → s₆ ≡ putField 47 (counts taken rejected) s₀
-unfolding counts
+    → s₆ ≡ putField 47 (flat (countTexts taken rejected)) s₀
 counts-written taken rejected s₀ s₁ s₂ s₃ s₄ s₅ s₆ n e₁ e₂ e₃ e₄ e₅ e₆ =
-    let v₁ = laid 47 62 (decimal 15 taken) s₀ s₁ e₁ (omega (arith, length-decimal 15 taken)) (omega arith) (omega arith) in
-    let v₂ = laid-next 47 62 _ s₀ s₁ v₁ (decimal 15 rejected) s₂ 77 e₂ (omega (arith, length-decimal 15 rejected)) (omega arith) in
-    let v₃ = laid-next 47 77 _ s₀ s₂ v₂ (bytes "120001") s₃ 83 e₃ refl (omega arith) in
-    let v₄ = laid-next 47 83 _ s₀ s₃ v₃ (zeros 25) s₄ 108 e₄ (omega (arith, length-zeros 25)) (omega arith) in
-    let v₅ = laid-next 47 108 _ s₀ s₄ v₄ (outcome rejected) s₅ 110 e₅ (omega (arith, length-outcome rejected)) (omega arith) in
-    let v₆ = laid-next 47 110 _ s₀ s₅ v₅ lineEnd s₆ 111 e₆ refl (omega arith) in
-    v₆ .is
+    in-turn {r = 111}
+    (then {q = 62} e₁ (omega (arith, length-decimal 15 taken))
+    (then {q = 77} e₂ (omega (arith, length-decimal 15 rejected))
+    (then {q = 83} e₃ refl
+    (then {q = 108} e₄ (omega (arith, length-zeros 25))
+    (then {q = 110} e₅ (omega (arith, length-outcome rejected))
+    (then {q = 111} e₆ refl all-done)))))) (omega arith) (omega arith)
 
 pub answer-written : (from w reason : ℕ) (l s₀ s₁ s₂ s₃ s₄ f : List ℕ) → 1 ≤ from → from - 1 + answerLength w ≤ length s₀ → Holding w l → f ≡ text w l
     → s₁ ≡ putField (from - 1 + 1) (bytes "1") s₀ → s₂ ≡ putField (from - 1 + 2) f s₁ → s₃ ≡ putField (from - 1 + w) (decimal 2 reason) s₂ → s₄ ≡ putField (from - 1 + w + 2) lineEnd s₃
@@ -77,22 +79,13 @@ unfolding answer
 answer-written from w reason l s₀ s₁ s₂ s₃ s₄ f o n (h, k) ef e₁ e₂ e₃ e₄ =
     let p : from - 1 + 1 ≡ from = omega arith in
     let nf : length f ≡ w - 2 = ap length ef ∙ length-text w l (h, k) in
-    let v₁ = laid from (from - 1 + 2) (bytes "1") s₀ s₁ (e₁ ∙ rw p) (omega arith) o (omega arith) in
-    let v₂ = laid-next from (from - 1 + 2) _ s₀ s₁ v₁ f s₂ (from - 1 + w) e₂ (omega arith) (omega arith) in
-    let v₃ = laid-next from (from - 1 + w) _ s₀ s₂ v₂ (decimal 2 reason) s₃ (from - 1 + w + 2) e₃ (omega (arith, length-decimal 2 reason)) (omega arith) in
-    let v₄ = laid-next from (from - 1 + w + 2) _ s₀ s₃ v₃ lineEnd s₄ (from - 1 + w + 3) e₄ (omega arith) (omega arith) in
-    v₄ .is ∙ rw ef
-
-pub foot-written : (from : ℕ) (s₀ s₁ s₂ s₃ : List ℕ) → 1 ≤ from → from - 1 + 64 ≤ length s₀
-    → s₁ ≡ putField (from - 1 + 1) (bytes "2") s₀ → s₂ ≡ putField (from - 1 + 2) (zeros 62) s₁ → s₃ ≡ putField (from - 1 + 64) lineEnd s₂
-    → s₃ ≡ putField from foot s₀
-unfolding foot
-foot-written from s₀ s₁ s₂ s₃ o n e₁ e₂ e₃ =
-    let p : from - 1 + 1 ≡ from = omega arith in
-    let v₁ = laid from (from - 1 + 2) (bytes "2") s₀ s₁ (e₁ ∙ rw p) (omega arith) o (omega arith) in
-    let v₂ = laid-next from (from - 1 + 2) _ s₀ s₁ v₁ (zeros 62) s₂ (from - 1 + 64) e₂ (omega (arith, length-zeros 62)) (omega arith) in
-    let v₃ = laid-next from (from - 1 + 64) _ s₀ s₂ v₂ lineEnd s₃ (from - 1 + 65) e₃ (omega arith) (omega arith) in
-    v₃ .is
+    let e : s₁ ≡ putField from (bytes "1") s₀ = rw p at e₁ in
+    in-turn {r = from - 1 + w + 3}
+    (then {q = from - 1 + 2} e (omega arith)
+    (then {q = from - 1 + w} e₂ (omega arith)
+    (then {q = from - 1 + w + 2} e₃ (omega (arith, length-decimal 2 reason))
+    (then {q = from - 1 + w + 3} e₄ (omega arith) all-done)))) o (omega arith)
+    ∙ rw ef
 
 -- ---- a line answered or not
 
@@ -194,14 +187,15 @@ module _ (h vs b s₂ s₃ : List ℕ) (w q : ℕ) (eb : b ≡ body h) (ew : w �
       (omega (arith, v .behind), omega (arith, v .behind, foot-place))
 
   pub written : (reception o s₁ s₄ : List ℕ) (taken rejected : ℕ) → length reception ≡ 14 → lengthHolds h ≡ true → taken ≡ tally good vs → rejected ≡ tally bad vs → confirmationLength (widthOf h) rejected ≤ length o
-      → s₁ ≡ putField 1 (names reception h) o → s₂ ≡ putField 47 (counts taken rejected) s₁ → s₄ ≡ putField q foot s₃
+      → s₁ ≡ putField 1 (flat (nameTexts reception h)) o → s₂ ≡ putField 47 (flat (countTexts taken rejected)) s₁ → s₄ ≡ putField q foot s₃
       → s₄ ≡ confirmation reception h vs ++ drop (length (confirmation reception h vs)) o
   unfolding confirmation head
   written reception o s₁ s₄ taken rejected dated whole et er room e₁ e₂ e₄ =
       let r : confirmationLength (widthOf h) (tally bad vs) ≤ length o = rw er at room in
-      let l : length (names reception h) ≡ 46 = length-names reception h dated (omega (arith, length-least h whole)) in
-      let v₁ = laid 1 47 (names reception h) o s₁ e₁ (omega arith) (omega arith) (omega arith) in
-      let v₂ = laid-next 1 47 _ o s₁ v₁ (counts taken rejected) s₂ 111 e₂ (omega (arith, length-counts taken rejected)) (omega arith) in
+      let l : length (flat (nameTexts reception h)) ≡ 46 = length-pieces (names-wide reception h dated (omega (arith, length-least h whole))) in
+      let k : length (flat (countTexts taken rejected)) ≡ 64 = length-pieces (counts-wide taken rejected) in
+      let v₁ = laid 1 47 (flat (nameTexts reception h)) o s₁ e₁ (omega arith) (omega arith) (omega arith) in
+      let v₂ = laid-next 1 47 _ o s₁ v₁ (flat (countTexts taken rejected)) s₂ 111 e₂ (omega arith) (omega arith) in
       let v₃ = laid-join 1 111 q _ _ o s₂ s₃ v₂ lines-laid in
       let v₄ = laid-next 1 q _ o s₃ v₃ foot s₄ (q + 64) e₄ (omega (arith, length-foot)) (omega (arith, foot-place)) in
-      laid-front (q + 64) _ o s₄ v₄ ∙ rw (et, er)
+      laid-front (q + 64) _ o s₄ v₄ ∙ rw (et, er, flat-append (nameTexts reception h) (countTexts (tally good vs) (tally bad vs)))

@@ -12,30 +12,21 @@ ghost use Rattle.theory.specs.Join.{flat};
 ghost use Rattle.writing.specs.Put.{putField};
 ghost use Rattle.writing.specs.laws.Laid.{Laid};
 ghost use Rattle.hgv.specs.Layout.{widthOf, linesIn, lengthHolds};
-ghost use Rattle.sizes.specs.Sizes.{headerLength, lineMost, footerLength, linesMost, hgcHeaderLength};
-ghost use Rattle.hgc.specs.Confirmation.{answerLength, confirmationLength, zeros, outcome, names, counts, answer, answers, foot};
+ghost use Rattle.sizes.specs.Sizes.{headerLength, lineMost, linesMost, hgcHeaderLength};
+ghost use Rattle.hgc.specs.Confirmation.{answerLength, confirmationLength, outcome, nameTexts, countTexts, answer, answers};
 ghost use Rattle.hgc.specs.laws.Confirmation.{said, Holding};
 ghost use Rattle.hgc.specs.Promises.{Write, LengthFor};
 
 // The digits of a count.
 const COUNT: usize = 15;
 
-// The zeros of header and footer.
+// The zeros of the header.
 const HEADER_ZEROS: usize = 25;
-
-const FOOTER_ZEROS: usize = 62;
-
-fn put_zeros(hgc: &mut [u8], from: usize, n: usize)
-    requires { ⌜ (1 ≤ from) × (from - 1 + n ≤ length (now hgc)) ⌝ }
-    ensures { λ _. ⌜ now (hgc .exit) ≡ putField from (zeros n) (now (hgc .entry)) ⌝ }
-{
-    numbers::put_number(hgc, from, n, 0);
-}
 
 // The header up to reception.
 fn put_names(hgc: &mut [u8], reception: &[u8], hgv: &[u8])
     requires { ⌜ (46 ≤ length (now hgc)) × ((length (now reception) ≡ 14) × (headerLength ≤ length (now hgv))) ⌝ }
-    ensures { λ _. ⌜ now (hgc .exit) ≡ putField 1 (names (now (reception .entry)) (now (hgv .entry))) (now (hgc .entry)) ⌝ }
+    ensures { λ _. ⌜ now (hgc .exit) ≡ putField 1 (flat (nameTexts (now (reception .entry)) (now (hgv .entry)))) (now (hgc .entry)) ⌝ }
 {
     let sender = header::sender(hgv);
     let sequence = texts::field(
@@ -64,12 +55,12 @@ fn put_outcome(hgc: &mut [u8], rejected: u64)
 // The header from the counts on.
 fn put_counts(hgc: &mut [u8], taken: u64, rejected: u64)
     requires { ⌜ hgcHeaderLength ≤ length (now hgc) ⌝ }
-    ensures { λ _. ⌜ now (hgc .exit) ≡ putField 47 (counts taken rejected) (now (hgc .entry)) ⌝ }
+    ensures { λ _. ⌜ now (hgc .exit) ≡ putField 47 (flat (countTexts taken rejected)) (now (hgc .entry)) ⌝ }
 {
     numbers::put_number(hgc, places::TAKEN_FROM, COUNT, taken);
     numbers::put_number(hgc, places::REJECTED_FROM, COUNT, rejected);
     writing::put_field(hgc, places::VERSION_FROM, b"120001");
-    put_zeros(hgc, places::FILLER_FROM, HEADER_ZEROS);
+    numbers::put_zeros(hgc, places::FILLER_FROM, HEADER_ZEROS);
     put_outcome(hgc, rejected);
     writing::put_field(hgc, places::HEADER_END, b"\n");
 }
@@ -115,16 +106,6 @@ fn put_answers(hgc: &mut [u8], lines: &[u8], width: usize, verdicts: &[u8]) -> u
     behind
 }
 
-fn put_foot(hgc: &mut [u8], from: usize)
-    requires { ⌜ (1 ≤ from) × (from - 1 + footerLength ≤ length (now hgc)) ⌝ }
-    ensures { λ _. ⌜ now (hgc .exit) ≡ putField from foot (now (hgc .entry)) ⌝ }
-{
-    let at = from - 1;
-    writing::put_field(hgc, at + places::FOOTER_TYPE, b"2");
-    put_zeros(hgc, at + places::ZEROS_FROM, FOOTER_ZEROS);
-    writing::put_field(hgc, at + places::FOOTER_END, b"\n");
-}
-
 // The confirmation in front of the block; what lies behind it stays as it was.
 pub fn write(
     hgc: &mut [u8],
@@ -145,7 +126,7 @@ pub fn write(
     put_names(hgc, reception, hgv);
     put_counts(hgc, taken, rejected);
     let behind = put_answers(hgc, hgv::body(hgv), hgv::width(hgv), verdicts);
-    put_foot(hgc, behind);
+    frames::put_foot(hgc, behind);
 }
 
 // How long the confirmation is with so many rejected lines of this width; a line of it is longer by its reason.

@@ -43,12 +43,3 @@ pub const HEADER_END: usize = 110;
 
 // A line; its text stands where it stood in the HGV, its reason from the position on that the HGV's line ends at, and LF behind.
 pub const LINE_TYPE: usize = 1;
-
-// The footer.
-pub const FOOTER_TYPE: usize = 1;
-
-pub const ZEROS_FROM: usize = 2;
-
-pub const ZEROS_TO: usize = 63;
-
-pub const FOOTER_END: usize = 64;

@@ -4,7 +4,7 @@ ghost use Prim.Native.Nat.{_+_, _-_, _≤_};
 ghost use lib.ListN.{length};
 ghost use Rattle.theory.specs.Text.{byte};
 ghost use Rattle.numbers.specs.Number.{decimal};
-ghost use Rattle.numbers.specs.Promises.{Number, PutNumber};
+ghost use Rattle.numbers.specs.Promises.{Number, PutNumber, PutZeros};
 
 // What a byte counts as a digit: 0 below '0'.
 fn value(b: u8) -> u64
@@ -51,4 +51,12 @@ pub fn put_number(text: &mut [u8], from: usize, width: usize, v: u64)
     let at = from - 1;
     let behind = at + width;
     put_digits(&mut text[at..behind], v);
+}
+
+// So many zeros written from a position on, counted from 1.
+pub fn put_zeros(text: &mut [u8], from: usize, n: usize)
+    requires { ⌜ (1 ≤ from) × (from - 1 + n ≤ length (now text)) ⌝ }
+    ensures { λ _. ⌜ PutZeros (now (text .entry)) from n (now (text .exit)) ⌝ }
+{
+    put_number(text, from, n, 0);
 }

@@ -1,11 +1,11 @@
 -- What the walks over the slots need. Assumes nothing.
-use mathlib.Core.Path.{_≡_, refl, ap, _∙_}
+use mathlib.Core.Path.{_≡_, _∙_}
 use mathlib.Core.Bool.{Bool, true, false, _&&_}
-use mathlib.Core.List.{List, [], _∷_, map}
-use Prim.Native.Nat.{ℕ, zero, suc, _-_, _*_, _%_, _≤_}
+use mathlib.Core.List.{List, map}
+use Prim.Native.Nat.{ℕ, _-_, _*_, _%_, _≤_}
 use native.Mathlib.Omega.{arith}
 use lib.Dec.{eqb, leb}
-use lib.ListN.{length, take, drop, replicate, length-drop}
+use lib.ListN.{length, take, drop, length-drop}
 use borrow.Author.Tests.{leb-true}
 use Rattle.theory.specs.laws.Truth.{and-right}
 use Rattle.theory.specs.Parts.{chop}
@@ -13,10 +13,6 @@ use Rattle.theory.specs.laws.Parts.{partsFrom, parts-start, length-chop}
 use Rattle.theory.specs.laws.Place.{drop-chop}
 use Rattle.theory.specs.Walk.{each}
 use Rattle.theory.specs.Distinct.{distinct}
-use Rattle.theory.specs.Keep.{onto}
-use Rattle.theory.specs.Pick.{good, pick}
-use Rattle.theory.specs.laws.Pick.{pick-take}
-use Rattle.theory.specs.laws.Table.{length-cut}
 use Rattle.sizes.specs.Sizes.{slotLength, slotsMost}
 use Rattle.columns.specs.Columns.{panOf}
 use Rattle.slots.specs.Slots.{slotsIn, slotsOf, records, usedIn}
@@ -30,22 +26,6 @@ unfolding partsFrom
 between-is n b from h =
     let e : n * slotLength - from * slotLength ≡ (n - from) * slotLength = omega (arith, h .0) in
     rw e (slots-front (drop (from * slotLength) b) (n - from) (simp length-drop (omega (arith, h .0, h .1))))
-
--- ---- all PANs are different: each slot is asked
-
-pick-zeros : (m : ℕ) (xs : List (List ℕ)) → length xs ≤ m → pick good (replicate m 0) xs ≡ xs
-unfolding pick good onto
-pick-zeros zero [] h = refl
-pick-zeros zero (x ∷ xs) h = absurd (omega arith)
-pick-zeros (suc m) [] h = refl
-pick-zeros (suc m) (x ∷ xs) h = ap (λ ys. x ∷ ys) (pick-zeros m xs (omega arith))
-
-module _ (n m : ℕ) (h : n ≤ m) where
-  pub all-asked : (b : List ℕ) (r : Bool) → r ≡ distinct (map panOf (pick good (take n (replicate m 0)) (chop slotLength (length (take {A = ℕ} n (replicate m 0))) b)))
-      → r ≡ distinct (map panOf (chop slotLength n b))
-  all-asked b r e =
-      let l : length (chop slotLength n b) ≡ n = length-chop slotLength n b in
-      e ∙ rw (length-cut n m 0 h, pick-take good n (replicate m 0) (chop slotLength n b) l, pick-zeros m (chop slotLength n b) (omega arith))
 
 -- ---- in order
 

@@ -1,15 +1,11 @@
 // The register in order (stop 23): whole slots, the used ones first, each a record, all PANs different.
 ghost use mathlib.Core.Path.{_≡_};
 ghost use mathlib.Core.Bool.{cond};
-ghost use mathlib.Core.List.{map};
 ghost use Prim.Native.Nat.{_*_, _≤_};
 ghost use lib.ListN.{length};
-ghost use Rattle.theory.specs.Parts.{chop};
 ghost use Rattle.theory.specs.laws.Parts.{partsFrom};
 ghost use Rattle.theory.specs.Walk.{each};
-ghost use Rattle.theory.specs.Distinct.{distinct};
-ghost use Rattle.sizes.specs.Sizes.{slotLength, slotsMost};
-ghost use Rattle.columns.specs.Columns.{panOf};
+ghost use Rattle.sizes.specs.Sizes.{slotLength};
 ghost use Rattle.slots.specs.Slots.{slotsOf};
 ghost use Rattle.register.specs.Register.{usedForm, freeForm};
 ghost use Rattle.register.specs.Promises.{InOrder};
@@ -69,15 +65,6 @@ fn slots_between<'a>(b: &'a [u8], from: usize, n: usize) -> &'a [u8]
     &b[at..behind]
 }
 
-// Have the first n slots different PANs.
-fn all_different(b: &[u8], n: usize) -> bool
-    requires { ⌜ (n * slotLength ≤ length (now b)) × (n ≤ slotsMost) ⌝ }
-    ensures { λ r. ⌜ r ≡ distinct (map panOf (chop slotLength n (now (b .entry)))) ⌝ }
-{
-    let asked = [0u8; sizes::SLOTS_MOST];
-    ordering::are_apart(b, PANS, &asked[..n])
-}
-
 // 0 to 8,192 whole slots, the used ones first and in form, all their PANs different, and zero bytes behind them.
 pub fn in_order(b: &[u8]) -> bool
     ensures { λ r. ⌜ InOrder (now (b .entry)) r ⌝ }
@@ -89,5 +76,5 @@ pub fn in_order(b: &[u8]) -> bool
     let used = slots::used_slots(b);
     each_has_form(slots_between(b, 0, used), true)
         & each_has_form(slots_between(b, used, n), false)
-        & all_different(b, used)
+        & apart::all_apart(b, PANS, used)
 }

@@ -1,2 +1,3 @@
+pub mod Length
 pub mod Coverage
 pub mod Outcomes

@@ -4,21 +4,21 @@ ghost use Rattle.sequences.specs.Promises.{IsSequence};
 const SEQUENCE: usize = 19;
 
 // Its columns, the first and the last position of each.
-const FILE_FROM: usize = 1;
+pub const FILE_FROM: usize = 1;
 
 const FILE_TO: usize = 3;
 
-const OWNER_FROM: usize = 4;
+pub const OWNER_FROM: usize = 4;
 
 const OWNER_TO: usize = 9;
 
-const DATE_FROM: usize = 10;
+pub const DATE_FROM: usize = 10;
 
 const DATE_TO: usize = 17;
 
-const NUMBER_FROM: usize = 18;
+pub const NUMBER_FROM: usize = 18;
 
-const NUMBER_TO: usize = 19;
+pub const NUMBER_TO: usize = 19;
 
 // Is `f` a sequence of the sender `from`.
 pub fn is_sequence(f: &[u8], from: &[u8]) -> bool

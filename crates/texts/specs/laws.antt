@@ -1,2 +1,3 @@
 pub mod Field
+pub mod Pieces
 pub mod Outcomes

@@ -4,7 +4,7 @@ use mathlib.Core.Bool.{true}
 use mathlib.Core.List.{List, [], _∷_, _++_}
 use Prim.Native.Nat.{ℕ, zero, suc, _*_, _-_, _≤_, _<_}
 use native.Mathlib.Omega.{arith}
-use lib.ListN.{length, getD, length-append, length-replicate}
+use lib.ListN.{length, getD, length-append}
 use Rattle.theory.specs.laws.Count.{bump-and-le}
 use Rattle.theory.specs.Each.{Each, none, more}
 use Rattle.theory.specs.Keep.{onto}
@@ -14,59 +14,39 @@ use Rattle.theory.specs.Tally.{tally}
 use Rattle.theory.specs.Join.{flat}
 use Rattle.theory.specs.laws.Join.{length-flat}
 use Rattle.texts.specs.laws.Field.{field-length}
-use Rattle.numbers.specs.Number.{decimal}
-use Rattle.numbers.specs.laws.Number.{length-decimal}
+use Rattle.texts.specs.laws.Pieces.{Wide, no-more, then, wide-append, length-pieces}
+use Rattle.numbers.specs.laws.Number.{length-decimal, length-zeros}
 use Rattle.columns.specs.Columns.{text}
 use Rattle.hgv.specs.Layout.{widthOf, linesIn, lengthHolds, linesOf}
-use Rattle.sizes.specs.Sizes.{headerLength, footerLength, hgcHeaderLength}
+use Rattle.sizes.specs.Sizes.{headerLength, hgcHeaderLength}
 use Rattle.hgv.specs.laws.Layout.{width-has, length-lines, each-line, length-least}
-use Rattle.header.specs.Header.{sender, listSequence}
-use Rattle.hgc.specs.Confirmation.{answerLength, confirmationLength, zeros, outcome, names, counts, head, answer, answers, foot, confirmation}
+use Rattle.frames.specs.laws.Frames.{length-foot}
+use Rattle.hgc.specs.Confirmation.{answerLength, confirmationLength, outcome, nameTexts, countTexts, head, answerTexts, answer, answers, confirmation}
 
 -- what there is of a line: its answer, and nothing where it was not rejected
 unfoldable pub said : ℕ → ℕ → List ℕ → List ℕ
 said w v l = flat (onto (bad v) (answer w v l) [])
-
-pub length-zeros : (n : ℕ) → length (zeros n) ≡ n
-unfolding zeros
-length-zeros n = length-replicate n 48
 
 pub length-outcome : (rejected : ℕ) → length (outcome rejected) ≡ 2
 unfolding outcome
 length-outcome zero = refl
 length-outcome (suc n) = refl
 
-zeros-behind : (n : ℕ) → zeros n ++ 48 ∷ [] ≡ 48 ∷ zeros n
-unfolding zeros
-zeros-behind zero = refl
-zeros-behind (suc n) = ap (λ (s : List ℕ). 48 ∷ s) (zeros-behind n)
+-- ---- the header
 
--- zeros are the digits of 0
-pub decimal-zeros : (n : ℕ) → decimal n 0 ≡ zeros n
-unfolding decimal zeros
-decimal-zeros zero = refl
-decimal-zeros (suc n) = ap (λ (s : List ℕ). s ++ 48 ∷ []) (decimal-zeros n) ∙ zeros-behind n
+pub names-wide : (reception h : List ℕ) → length reception ≡ 14 → headerLength ≤ length h → Wide (1 ∷ 6 ∷ 6 ∷ 19 ∷ 14 ∷ []) (nameTexts reception h)
+names-wide reception h d l = then refl (then refl (then (field-length 2 7 h (omega arith) (omega arith)) (then (field-length 14 32 h (omega arith) (omega arith)) (then d no-more))))
 
--- ---- header and footer
+pub counts-wide : (taken rejected : ℕ) → Wide (15 ∷ 15 ∷ 6 ∷ 25 ∷ 2 ∷ 1 ∷ []) (countTexts taken rejected)
+counts-wide taken rejected = then (length-decimal 15 _) (then (length-decimal 15 _) (then refl (then (length-zeros 25) (then (length-outcome rejected) (then refl no-more)))))
 
-pub length-names : (reception h : List ℕ) → length reception ≡ 14 → headerLength ≤ length h → length (names reception h) ≡ 46
-unfolding names
-length-names reception h d l =
-    let s : length (sender h) ≡ 6 = field-length 2 7 h (omega arith) (omega arith) in
-    let q : length (listSequence h) ≡ 19 = field-length 14 32 h (omega arith) (omega arith) in
-    simp length-append (omega arith)
-
-pub length-counts : (taken rejected : ℕ) → length (counts taken rejected) ≡ 64
-unfolding counts
-length-counts taken rejected = simp length-append (omega (arith, length-decimal 15 taken, length-decimal 15 rejected, length-zeros 25, length-outcome rejected))
+pub head-wide : (reception h : List ℕ) (taken rejected : ℕ) → length reception ≡ 14 → headerLength ≤ length h
+    → Wide (1 ∷ 6 ∷ 6 ∷ 19 ∷ 14 ∷ 15 ∷ 15 ∷ 6 ∷ 25 ∷ 2 ∷ 1 ∷ []) (nameTexts reception h ++ countTexts taken rejected)
+head-wide reception h taken rejected d l = wide-append (names-wide reception h d l) (counts-wide taken rejected)
 
 pub length-head : (reception h : List ℕ) (taken rejected : ℕ) → length reception ≡ 14 → headerLength ≤ length h → length (head reception h taken rejected) ≡ hgcHeaderLength
 unfolding head
-length-head reception h taken rejected d l = length-append (names reception h) (counts taken rejected) ∙ rw (length-names reception h d l, length-counts taken rejected)
-
-pub length-foot : length foot ≡ footerLength
-unfolding foot
-length-foot = simp length-append (omega (arith, length-zeros 62))
+length-head reception h taken rejected d l = length-pieces (head-wide reception h taken rejected d l)
 
 -- ---- the answers
 
@@ -83,9 +63,12 @@ answers-none w [] = refl
 answers-none w (v ∷ vs) = refl
 
 module _ (w : ℕ) where
+  pub answer-wide : (v : ℕ) (l : List ℕ) → Holding w l → Wide (1 ∷ (w - 2) ∷ 2 ∷ 1 ∷ []) (answerTexts w v l)
+  answer-wide v l h = then refl (then (length-text w l h) (then (length-decimal 2 v) (then refl no-more)))
+
   pub length-answer : (v : ℕ) (l : List ℕ) → Holding w l → length (answer w v l) ≡ answerLength w
   unfolding answer
-  length-answer v l h = simp length-append (omega (arith, length-text w l h, length-decimal 2 v, h .0))
+  length-answer v l h = length-pieces (answer-wide v l h) ∙ omega (arith, h .0)
 
   -- one for each bad verdict
   pub count-answers : (vs : List ℕ) (ls : List (List ℕ)) → length vs ≡ length ls → length (answers w vs ls) ≡ tally bad vs

@@ -6,8 +6,9 @@ use Rattle.theory.specs.Text.{bytes}
 use Rattle.theory.specs.Tally.{tally}
 use Rattle.theory.specs.Join.{flat}
 use Rattle.texts.specs.Field.{field, lineEnd}
-use Rattle.numbers.specs.Number.{decimal}
-use Rattle.hgc.specs.Confirmation.{zeros, outcome, names, counts, head, answers, foot, confirmation}
+use Rattle.numbers.specs.Number.{decimal, zeros}
+use Rattle.frames.specs.Frames.{foot}
+use Rattle.hgc.specs.Confirmation.{outcome, head, answers, confirmation}
 
 -- list HGV9001232025031001 of the sender 900123
 abbrev list : List ℕ
@@ -17,5 +18,5 @@ list =
 
 pub no-lines : confirmation (bytes "20250310050000") list []
     ≡ bytes "0000002900123HGV900123202503100120250310050000000000000000000000000000000000120001000000000000000000000000000" ++ lineEnd ++ bytes "200000000000000000000000000000000000000000000000000000000000000" ++ lineEnd
-unfolding confirmation head names counts answers flat foot field decimal zeros outcome tally
+unfolding confirmation head answers flat foot field decimal zeros outcome tally
 no-lines = refl

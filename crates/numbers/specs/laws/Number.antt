@@ -6,14 +6,14 @@ use Prim.Native.Nat.{ℕ, zero, suc, _+_, _*_, _-_, _/_, _%_, _^_, _≤_, _<_}
 use native.Mathlib.Nat.{pow-suc}
 use native.Mathlib.Omega.{arith}
 use lib.Dec.{leb}
-use lib.ListN.{length, length-append}
+use lib.ListN.{length, length-append, length-replicate}
 use borrow.Author.Tests.{le-leb}
 use Rattle.theory.specs.Text.{byte}
 use Rattle.theory.specs.laws.Truth.{and-both}
 use Rattle.theory.specs.Every.{all, run}
 use Rattle.theory.specs.laws.Every.{all-run, all-append}
 use Rattle.fields.specs.Field.{digit}
-use Rattle.numbers.specs.Number.{number, numberAfter, decimal}
+use Rattle.numbers.specs.Number.{number, numberAfter, decimal, zeros}
 
 -- so many digits
 pub length-decimal : (k v : ℕ) → length (decimal k v) ≡ k
@@ -57,3 +57,20 @@ number-15 v h = number-decimal 15 v (omega arith)
 
 pub number-2 : (v : ℕ) → v ≤ 99 → number (decimal 2 v) ≡ v
 number-2 v h = number-decimal 2 v (omega arith)
+
+-- ---- zeros
+
+pub length-zeros : (n : ℕ) → length (zeros n) ≡ n
+unfolding zeros
+length-zeros n = length-replicate n (byte "0")
+
+zeros-behind : (n : ℕ) → zeros n ++ byte "0" ∷ [] ≡ byte "0" ∷ zeros n
+unfolding zeros
+zeros-behind zero = refl
+zeros-behind (suc n) = ap (λ (s : List ℕ). byte "0" ∷ s) (zeros-behind n)
+
+-- they are the digits of 0
+pub decimal-zeros : (n : ℕ) → decimal n 0 ≡ zeros n
+unfolding decimal zeros
+decimal-zeros zero = refl
+decimal-zeros (suc n) = ap (λ (s : List ℕ). s ++ byte "0" ∷ []) (decimal-zeros n) ∙ zeros-behind n

@@ -24,17 +24,18 @@ use Rattle.theory.specs.Pick.{good, bad, pick}
 use Rattle.theory.specs.Tally.{tally}
 use Rattle.texts.specs.Field.{field}
 use Rattle.texts.specs.laws.Field.{field-before}
-use Rattle.numbers.specs.Number.{decimal}
+use Rattle.numbers.specs.Number.{decimal, zeros}
 use Rattle.numbers.specs.laws.Number.{decimal-digits}
 use Rattle.lines.specs.Rules.{recordHolds}
 use Rattle.slots.specs.Search.{ofActor}
 use Rattle.hgv.specs.Layout.{widthOf, linesIn, lengthHolds, linesOf, footer}
 use Rattle.sizes.specs.Sizes.{headerLength, footerLength, hgcHeaderLength}
-use Rattle.frames.specs.Frames.{footerHolds}
+use Rattle.frames.specs.Frames.{foot, footerHolds}
+use Rattle.frames.specs.laws.Frames.{length-foot, foot-form}
 use Rattle.hgv.specs.laws.Layout.{width-has, length-lines, each-line, length-least}
 use Rattle.header.specs.Header.{sender, listSequence}
-use Rattle.hgc.specs.Confirmation.{answerLength, confirmationLength, zeros, outcome, head, answer, answers, foot, confirmation}
-use Rattle.hgc.specs.laws.Confirmation.{Holding, length-head, length-foot, each-answer, count-answers, length-answers, length-confirmation}
+use Rattle.hgc.specs.Confirmation.{answerLength, confirmationLength, outcome, head, answer, answers, confirmation}
+use Rattle.hgc.specs.laws.Confirmation.{Holding, length-head, each-answer, count-answers, length-answers, length-confirmation}
 use Rattle.hgc.specs.laws.Fields.{
   head-type,
   head-sender,
@@ -50,7 +51,6 @@ use Rattle.hgc.specs.laws.Fields.{
   answer-type,
   answer-end,
   texts-answers,
-  foot-form,
 }
 use Rattle.receipts.specs.Receipt.{
   bareLength,

@@ -19,15 +19,15 @@ slots-between-requires c κs = (omega arith, used-room _ _ (c .used-slots .ensur
 slots-between-requires-2 : tie.Need-slots-between-requires-2
 slots-between-requires-2 c κs = (rw (c .before .before .used-slots .ensures) (used-most _), div-mul-le-self _ slotLength)
 
-all-different-requires : tie.Need-all-different-requires
-all-different-requires c κs =
+all-apart-requires : tie.Need-all-apart-requires
+all-apart-requires c κs =
     let x = c .before .before .before .before in
-    (used-room _ _ (x .used-slots .ensures), used-few _ _ (x .used-slots .ensures) (not-false _ (x .before .if1 .left)))
+    (used-room _ _ (x .used-slots .ensures), ((omega arith, omega arith), used-few _ _ (x .used-slots .ensures) (not-false _ (x .before .if1 .left))))
 
 returns-2 : tie.Need-returns-2
 returns-2 c =
     let x = c .before .before .before .before in
-    order-is _ _ (x .before .used-slots .ensures) (not-false _ (x .before .before .if1 .left)) _ _ (x .slots-between .ensures) (c .before .before .slots-between2 .ensures) _ _ _ (c .before .before .before .each-has-form .ensures) (c .before .each-has-form2 .ensures) (c .all-different .ensures)
+    order-is _ _ (x .before .used-slots .ensures) (not-false _ (x .before .before .if1 .left)) _ _ (x .slots-between .ensures) (c .before .before .slots-between2 .ensures) _ _ _ (c .before .before .before .each-has-form .ensures) (c .before .each-has-form2 .ensures) (c .all-apart .ensures)
 
 pub in-order-spec : {M : Type 1} → statement M
 in-order-spec =
@@ -39,5 +39,5 @@ in-order-spec =
     (λ c κs. search needs)
     slots-between-requires-2
     (λ c κs. search needs)
-    all-different-requires
+    all-apart-requires
     returns-2)

@@ -1,5 +1,5 @@
 -- Laws of a field, for those who read one. Assumes nothing.
-use mathlib.Core.Path.{_≡_, _∙_}
+use mathlib.Core.Path.{_≡_}
 use mathlib.Core.List.{List, [], _∷_, _++_}
 use Prim.Native.Nat.{ℕ, zero, suc, _+_, _-_, _≤_, _<_}
 use native.Mathlib.Omega.{arith}
@@ -49,13 +49,6 @@ field-behind from to n s t e h =
     let d : from - 1 ≡ length s + (from - n - 1) = omega arith in
     let k : to + 1 - from ≡ to - n + 1 - (from - n) = omega arith in
     rw (d, drop-append-add s t (from - n - 1), k)
-
--- the last field of a text, behind n bytes
-pub field-last : (from to n : ℕ) (s f : List ℕ) → length s ≡ n → n + 1 ≡ from → n + length f ≡ to → field from to (s ++ f) ≡ f
-field-last from to n s f e h k =
-    let a : from - n ≡ 1 = omega arith in
-    let b : to - n ≡ length f = omega arith in
-    field-behind from to n s f e (omega arith) ∙ rw (a, b) (field-all (length f) f (omega arith))
 
 drop-take : (k n : ℕ) (s : List ℕ) → drop k (take n s) ≡ take (n - k) (drop k s)
 drop-take zero n s = let e : n - 0 ≡ n = omega arith in rw e

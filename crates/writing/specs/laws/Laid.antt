@@ -1,10 +1,11 @@
 -- Fields written one behind another into a text: what stands there then, and that all else is as it was. Assumes nothing.
 use mathlib.Core.Path.{_≡_, sym, ap, _∙_}
-use mathlib.Core.List.{List, [], _++_, append-assoc}
+use mathlib.Core.List.{List, [], _∷_, _++_, append-assoc}
 use Prim.Native.Nat.{ℕ, _+_, _-_, _≤_}
 use native.Mathlib.Omega.{arith}
 use lib.ListN.{length, take, drop, length-append, length-take, length-drop, take-append-drop}
 use lib.Seq.{length-take-le, take-at, drop-append-add, drop-drop}
+use Rattle.theory.specs.Join.{flat}
 use Rattle.writing.specs.Put.{putField}
 
 -- w is written from position p on, q is the position behind it, and all else is as in the text before
@@ -71,3 +72,27 @@ laid-next p q w before text v f text′ r e l h =
 pub laid-front : (q : ℕ) (w before text : List ℕ) → Laid 1 q w before text → text ≡ w ++ drop (length w) before
 unfolding putField
 laid-front q w before text v = v .is ∙ let z : 0 + length w ≡ length w = omega arith in rw z
+
+-- ---- one behind another
+
+-- the texts fs, each written behind the one before it, from position p on; r is the position behind the last
+pub data InTurn : ℕ → ℕ → List (List ℕ) → List ℕ → List ℕ → Type 0 where
+  all-done : {p : ℕ} {text : List ℕ} → InTurn p p [] text text
+  then : {p q r : ℕ} {f : List ℕ} {fs : List (List ℕ)} {s t text : List ℕ} → t ≡ putField p f s → p + length f ≡ q → InTurn q r fs t text → InTurn p r (f ∷ fs) s text
+
+-- they reach as far
+in-turn-behind : {p r : ℕ} {fs : List (List ℕ)} {before text : List ℕ} → InTurn p r fs before text → p + length (flat fs) ≡ r
+unfolding flat
+in-turn-behind all-done = omega arith
+in-turn-behind (then {f = f} {fs = fs} e k v) = let h = in-turn-behind v in simp length-append (omega arith)
+
+-- and are written as one
+pub in-turn : {p r : ℕ} {fs : List (List ℕ)} {before text : List ℕ} → InTurn p r fs before text → 1 ≤ p → r ≤ length before + 1 → text ≡ putField p (flat fs) before
+unfolding flat
+in-turn {p} (all-done {text = text}) o l = laid-start p text o l .is
+in-turn {p} {r} (then {q = q} {f = f} {fs = fs} {s = s} {t = t} e k v) o l =
+    let h : q + length (flat fs) ≡ r = in-turn-behind v in
+    let m : length t ≡ length s = laid-length p q f s t (laid p q f s t e k o (omega arith)) in
+    let a : 1 ≤ q = omega arith in
+    let b : r ≤ length t + 1 = omega arith in
+    in-turn v a b ∙ rw (← k, e) (put-behind p f (flat fs) s o (omega arith))

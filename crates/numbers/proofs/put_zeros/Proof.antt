@@ -2,9 +2,9 @@
 use mathlib.Core.Path.{_∙_}
 use borrow.Author.Needs.{needs}
 use Rattle.writing.specs.laws.Put.{put-ap}
-use Rattle.hgc.specs.laws.Confirmation.{decimal-zeros}
-use Rattle.hgc.proofs.put_zeros.Statement.{statement}
-use Rattle.hgc.proofs.put_zeros.Tie as tie
+use Rattle.numbers.specs.laws.Number.{decimal-zeros}
+use Rattle.numbers.proofs.put_zeros.Statement.{statement}
+use Rattle.numbers.proofs.put_zeros.Tie as tie
 
 returns : tie.Need-returns
 returns c = c .before .before .put-number .ensures ∙ put-ap _ _ (decimal-zeros _)

@@ -1,8 +1,8 @@
 -- Assumes nothing.
 use borrow.Author.Needs.{needs}
-use Rattle.hgc.proofs.Laws.{foot-written}
-use Rattle.hgc.proofs.put_foot.Statement.{statement}
-use Rattle.hgc.proofs.put_foot.Tie as tie
+use Rattle.frames.proofs.Laws.{foot-written}
+use Rattle.frames.proofs.put_foot.Statement.{statement}
+use Rattle.frames.proofs.put_foot.Tie as tie
 
 returns : tie.Need-returns
 returns c =
