@@ -1,0 +1,4 @@
+pub mod Given
+pub mod Hgv
+pub mod Promises
+pub mod laws

@@ -1,0 +1,4 @@
+pub mod Stops
+pub mod Kept
+pub mod Built
+pub mod Outcomes
