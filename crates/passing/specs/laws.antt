@@ -1,0 +1,5 @@
+pub mod Fields
+pub mod Passes
+pub mod Verdicts
+pub mod Same
+pub mod Written

@@ -1,0 +1,1 @@
+// What the writer's files are to the import: theorems alone.
