@@ -2,6 +2,7 @@
 //!
 //! [`Register`] is a road's register, or a provider's copy of his part of it: an HGV is imported into it, a PAN or a plate
 //! looked up in it, a confirmed HGV applied to a copy. [`read_back`] tells a provider what an HGC says of each of his lines.
+//! [`write`] makes an HGV of a provider's [`Account`]s that passes the import's form, with no line that breaks a rule of its own.
 //! Every answer is the proved library's and nothing here judges a byte. What is refused is refused by its [`Number`] in the
 //! definition, and a refusal leaves every block as it was.
 //!
@@ -33,10 +34,13 @@ pub mod raw;
 mod reason;
 mod register;
 pub mod sizes;
+mod writer;
 
 pub use mode::Mode;
 pub use number::Number;
 pub use numbered::Undefined;
 pub use provider::read_back;
+pub use raw::List;
 pub use reason::{Reason, Verdict};
 pub use register::{rows_in_form, Counts, Import, Register};
+pub use writer::{write, Account, NO_LIST};

@@ -23,6 +23,9 @@ numbered! {
         51 OtherActor "the copy has a record of another actor than the HGV's sender"
         52 Hgc "the HGC breaks its form or does not fit the HGV"
         53 VerdictBlock "the block for the verdicts is too short"
+        61 Given "a field or an issuer row breaks its rule, no issuer row has the sender, or there are more than 8,192 accounts"
+        62 SamePan "two accounts have the same PAN"
+        63 HgvBuffer "the buffer for the HGV is too short"
     }
 }
 

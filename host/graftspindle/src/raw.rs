@@ -15,11 +15,13 @@
 
 mod answers;
 mod provider;
+mod writer;
 
 use std::ops::Range;
 
-pub use answers::{Counted, Imported};
+pub use answers::{Counted, Imported, Written};
 pub use provider::{read_back, update};
+pub use writer::{write, List};
 
 #[cfg(not(target_pointer_width = "64"))]
 compile_error!("a length crosses to the proved library in 64 bits");

@@ -25,6 +25,9 @@ pub const HGC_HEADER: usize = 110;
 /// A line of an HGC: the HGV's, and the two digits of its reason.
 pub const HGC_LINE: usize = LINE + 2;
 
+/// An account, as the writer takes it.
+pub const ACCOUNT: usize = 100;
+
 /// An issuer row.
 pub const ROW: usize = 24;
 

@@ -23,3 +23,12 @@ pub struct Counted {
     /// The lines rejected.
     pub rejected: u64,
 }
+
+/// The answer of the writer.
+#[derive(Clone, Copy, Debug, Default, PartialEq, Eq)]
+pub struct Written {
+    /// 0, or the number of the refusal.
+    pub number: u64,
+    /// The bytes of the HGV, at the beginning of its buffer.
+    pub length: u64,
+}
