@@ -3,7 +3,7 @@
 use std::ops::Range;
 
 use crate::{hashed, plain};
-use graftspindle::raw::{self, Counted, Imported};
+use graftspindle::raw::{self, Counted, Imported, List, Written};
 
 pub type Import = fn(u64, &[u8], &mut [u8], &[u8], &[u8], &mut [u8]) -> Imported;
 
@@ -22,6 +22,7 @@ pub struct Engine {
     pub read_back: fn(&[u8], &[u8], &mut [u8]) -> Counted,
     pub update: fn(u64, &mut [u8], &[u8], &[u8]) -> Counted,
     pub in_order: fn(&[u8]) -> bool,
+    pub write: fn(&List, &mut [u8]) -> Written,
 }
 
 pub const ENGINES: &[Engine] = &[
@@ -33,6 +34,7 @@ pub const ENGINES: &[Engine] = &[
         read_back: plain::read_back,
         update: plain::update,
         in_order: plain::in_order,
+        write: plain::write,
     },
     Engine {
         name: "hashed",
@@ -42,6 +44,7 @@ pub const ENGINES: &[Engine] = &[
         read_back: hashed::read_back,
         update: hashed::update,
         in_order: hashed::in_order,
+        write: hashed::write,
     },
     Engine {
         name: "proved",
@@ -51,5 +54,6 @@ pub const ENGINES: &[Engine] = &[
         read_back: raw::read_back,
         update: raw::update,
         in_order: |register| raw::by_pan(register, b"0                  ").0 != 23,
+        write: raw::write,
     },
 ];

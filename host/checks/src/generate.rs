@@ -3,6 +3,8 @@
 pub mod case;
 pub mod damage;
 pub mod file;
+pub mod giving;
+pub mod giving_faults;
 pub mod large;
 pub mod line;
 pub mod pair;
@@ -12,6 +14,7 @@ pub mod sequence;
 pub mod world;
 
 pub use case::{case, Case};
+pub use giving::{giving, large_giving, Giving};
 pub use large::large;
 pub use pair::{pair, Pair};
 pub use question::{question, Question};

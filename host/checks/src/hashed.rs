@@ -7,8 +7,9 @@ use crate::plain::import::{finish_import, import_stop_to_32, import_stopped};
 use crate::plain::lookup::{answer_by_plate, plate_stop};
 use crate::plain::provider::{count_stopped, finish_read_back, finish_update, read_back_stop_to_32, update_stop_to_32};
 use crate::plain::register::{self, after, SLOT};
+use crate::plain::writer::write_by;
 use crate::plain::{confirmation, hgv, line, pairing, rows, verdict};
-use graftspindle::raw::{Counted, Imported};
+use graftspindle::raw::{Counted, Imported, List, Written};
 
 /// The place of each PAN among slots whose PANs are all different.
 fn places<'a>(slots: &[&'a [u8]]) -> HashMap<&'a [u8], usize> {
@@ -145,4 +146,8 @@ pub fn update(mode: u64, copy: &mut [u8], hgv: &[u8], hgc: &[u8]) -> Counted {
     let reception = confirmation::reception(hgc);
     let after = after(mode, copy, hgv::sender(hgv), &taken, reception, after_mode_1);
     finish_update(copy, &marks, &after)
+}
+
+pub fn write(list: &List, out: &mut [u8]) -> Written {
+    write_by(list, out, pans_differ)
 }

@@ -1,5 +1,28 @@
 //! What the paper lists, written out from it and from nothing else: lists alone, no rule.
 
+/// A column of a line: its name, its first and its last position.
+pub type Column = (&'static str, usize, usize);
+
+/// The columns of a line that an account gives, in their order; the others are the same in each line of a sender.
+pub const COLUMNS: [Column; 16] = [
+    ("PAN", 14, 32),
+    ("plate", 33, 42),
+    ("nationality", 43, 45),
+    ("tariff", 46, 47),
+    ("class", 48, 48),
+    ("axles", 49, 49),
+    ("context mark", 50, 61),
+    ("OBE ID", 62, 79),
+    ("emission", 80, 85),
+    ("fuel", 86, 87),
+    ("88", 88, 88),
+    ("engine", 92, 94),
+    ("CO2", 95, 96),
+    ("weight", 97, 100),
+    ("Valid to", 101, 114),
+    ("separator", 115, 116),
+];
+
 /// Fuel (86-87).
 pub const FUELS: [&str; 16] =
     ["01", "02", "03", "04", "05", "06", "09", "10", "11", "12", "13", "14", "15", "20", "21", "22"];

@@ -11,9 +11,11 @@ pub mod register;
 pub mod rows;
 pub mod verdict;
 pub mod words;
+pub mod writer;
 
 pub use import::{import, rules_broken};
 pub use lookup::{by_pan, by_plate};
 pub use pairing::{Clause, CLAUSES};
 pub use provider::{clauses_of_52, read_back, update};
 pub use register::in_order;
+pub use writer::{causes_of_61, write, Cause};

@@ -1,4 +1,7 @@
-//! Files as long as is asked for, of lines that are right or that have one fault.
+//! Files as long as is asked for, of lines that are right or that have one fault; and the accounts of such lines.
+
+use crate::lists::COLUMNS;
+use graftspindle::raw::List;
 
 pub const RECEPTION: &[u8] = b"20250310050000";
 const SENDER: &str = "900123";
@@ -66,4 +69,39 @@ pub fn hgv(lines: usize) -> Vec<u8> {
 /// The one issuer row that fits them.
 pub fn row() -> Vec<u8> {
     format!("{:<14}0616{SENDER}", "979900").into_bytes()
+}
+
+/// The account of a line: its columns, one behind the other.
+pub fn account_of(line: &[u8]) -> Vec<u8> {
+    COLUMNS.iter().flat_map(|&(_, from, to)| &line[from - 1..to]).copied().collect()
+}
+
+/// The line with the columns of an account.
+pub fn with_account(line: &[u8], account: &[u8]) -> Vec<u8> {
+    let (mut line, mut rest) = (line.to_vec(), account);
+    for (_, from, to) in COLUMNS {
+        let (column, behind) = rest.split_at(to - from + 1);
+        line[from - 1..to].copy_from_slice(column);
+        rest = behind;
+    }
+    line
+}
+
+/// The accounts of a file of so many lines.
+pub fn accounts(n: usize) -> Vec<u8> {
+    (0..n).flat_map(|i| account_of(line(i).as_bytes())).collect()
+}
+
+/// What that file is written from.
+pub fn list<'a>(rows: &'a [u8], accounts: &'a [u8]) -> List<'a> {
+    List {
+        version: 120001,
+        sender: SENDER.as_bytes(),
+        date: b"20250310",
+        number: 1,
+        previous: b"HGV0000000000000000",
+        creation: b"20250310040000",
+        rows,
+        accounts,
+    }
 }

@@ -1,5 +1,7 @@
 //! The definition's own cases and the comparison of all implementations.
 
+#[path = "definition/accounts.rs"]
+mod accounts;
 #[path = "definition/agreement.rs"]
 mod agreement;
 #[path = "definition/boundary.rs"]
@@ -26,3 +28,7 @@ mod registers;
 mod size;
 #[path = "definition/vectors.rs"]
 mod vectors;
+#[path = "definition/writing.rs"]
+mod writing;
+#[path = "definition/writing_limits.rs"]
+mod writing_limits;

@@ -31,7 +31,8 @@ fn rejected_line(sent: &[u8], reason: u8) -> Vec<u8> {
     line
 }
 
-fn footer() -> Vec<u8> {
+/// The HGV has the same footer.
+pub fn footer() -> Vec<u8> {
     [&b"2"[..], &[b'0'; 62], &[LF]].concat()
 }
 

@@ -49,7 +49,7 @@ fn sequence_right(sequence: &[u8], sender: &[u8]) -> bool {
         && matches!(number_of(positions(sequence, 18, 19)), Some(1..=99))
 }
 
-fn previous_right(previous: &[u8], sender: &[u8]) -> bool {
+pub fn previous_right(previous: &[u8], sender: &[u8]) -> bool {
     sequence_right(previous, sender) || previous == b"HGV0000000000000000"
 }
 

@@ -5,24 +5,8 @@ use graftspindle::raw::{Counted, Imported};
 use graftspindle_checks::generate::{case, pair, question, sequence, slots, Case, Event};
 use graftspindle_checks::plain::{clauses_of_52, rules_broken, CLAUSES};
 use std::collections::BTreeMap;
-use std::fmt::Debug;
 
-const SEEDS: u64 = 100_000;
 const SEQUENCES: u64 = 2_000;
-
-type Counts<K> = BTreeMap<K, u64>;
-
-fn count<K: Ord>(counts: &mut Counts<K>, key: K) {
-    *counts.entry(key).or_insert(0) += 1;
-}
-
-/// Prints the counts; exactly the expected ones were reached, each more than by chance.
-fn assert_reached<K: Ord + Debug>(what: &str, counts: &Counts<K>, mut expected: Vec<K>) {
-    println!("{what}: {counts:?}");
-    expected.sort();
-    assert!(counts.keys().eq(&expected), "{what}: expected {expected:?}");
-    assert!(counts.values().all(|&times| times >= 10), "{what}: hardly reached");
-}
 
 fn run_case(engine: &Engine, case: &Case) -> Outcome {
     run(engine, case.mode, &case.reception, &case.register, &case.rows, &case.hgv, case.hgc_len)

@@ -77,6 +77,21 @@ fn update() {
     assert!(copy == imported());
 }
 
+#[test]
+fn write() {
+    let (rows, accounts) = (sample::row(), sample::accounts(3));
+    let list = sample::list(&rows, &accounts);
+    let (mut file, mut other) = (vec![7; 600], vec![7; 600]);
+    let done = raw::write(&list, &mut file);
+    assert_eq!(done, plain::write(&list, &mut other));
+    assert_eq!((done.number, done.length), (0, 576));
+    assert!(file == other && file[..576] == sample::hgv(3) && file[576..] == [7; 24]);
+    let mut short = vec![7; 575];
+    let refused = raw::write(&list, &mut short);
+    assert_eq!((refused.number, refused.length), (63, 0));
+    assert!(short == [7; 575]);
+}
+
 /// The largest files and registers, on a thread with a stack of 128 KiB.
 #[test]
 fn small_stack() {
@@ -92,4 +107,19 @@ fn small_stack() {
     };
     let thread = std::thread::Builder::new().stack_size(128 * 1024).spawn(calls);
     assert_eq!(thread.expect("a thread").join().expect("it ends"), (8192, 8192, 8192, 8192, true));
+}
+
+/// The largest lists on the same stack: one that is written, and one whose last PAN is its first.
+#[test]
+fn small_stack_for_writing() {
+    let calls = || {
+        let (rows, mut accounts) = (sample::row().repeat(64), sample::accounts(8192));
+        let mut file = vec![0; 192 + 128 * 8192];
+        let written = raw::write(&sample::list(&rows, &accounts), &mut file);
+        accounts.copy_within(..19, 8191 * 100);
+        let refused = raw::write(&sample::list(&rows, &accounts), &mut file);
+        (written.number, refused.number, file == sample::hgv(8192))
+    };
+    let thread = std::thread::Builder::new().stack_size(128 * 1024).spawn(calls);
+    assert_eq!(thread.expect("a thread").join().expect("it ends"), (0, 62, true));
 }

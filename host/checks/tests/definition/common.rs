@@ -1,8 +1,13 @@
 //! The shorthand of the cases.
 
-use graftspindle::raw::{Counted, Imported};
+use graftspindle::raw::{Counted, Imported, List, Written};
 pub use graftspindle_checks::engines::{Engine, ENGINES};
+use graftspindle_checks::sample;
+use std::collections::BTreeMap;
 use std::fmt::Debug;
+
+/// So many inputs are drawn from the generator.
+pub const SEEDS: u64 = 100_000;
 
 pub const R0: &[u8] = b"20250310050000";
 pub const ROW0: &[u8] = b"97990012      0816900123";
@@ -144,4 +149,47 @@ pub fn of_all<A: PartialEq + Debug>(ask: impl Fn(&Engine) -> A) -> A {
         assert!(answer == first, "{}: {answer:?}\n{}: {first:?}", engine.name, ENGINES[0].name);
     }
     first
+}
+
+pub type Counts<K> = BTreeMap<K, u64>;
+
+pub fn count<K: Ord>(counts: &mut Counts<K>, key: K) {
+    *counts.entry(key).or_insert(0) += 1;
+}
+
+/// Prints the counts; exactly the expected ones were reached, each more than by chance.
+pub fn assert_reached<K: Ord + Debug>(what: &str, counts: &Counts<K>, mut expected: Vec<K>) {
+    println!("{what}: {counts:?}");
+    expected.sort();
+    assert!(counts.keys().eq(&expected), "{what}: expected {expected:?}");
+    assert!(counts.values().all(|&times| times >= 10), "{what}: hardly reached");
+}
+
+/// Writes a list into a buffer of EE and checks what is owed to it; the number, and the file.
+pub fn write(engine: &Engine, list: &List, room: usize) -> (u64, Vec<u8>) {
+    let mut file = vec![0xEE; room];
+    let Written { number, length } = (engine.write)(list, &mut file);
+    let expected = if number == 0 { 192 + 128 * (list.accounts.len() / 100) } else { 0 };
+    assert_eq!(length as usize, expected, "{}: {number}", engine.name);
+    let behind = file.split_off(expected);
+    assert!(behind.iter().all(|&b| b == 0xEE), "{}: bytes beyond the HGV", engine.name);
+    (number, file)
+}
+
+/// What the file of `hgv(..)` is written from.
+pub fn list(accounts: &[u8]) -> List<'_> {
+    sample::list(ROW0, accounts)
+}
+
+/// A list before it.
+pub const PREVIOUS: &[u8] = b"HGV9001232025030999";
+
+/// The accounts of X and Y.
+pub fn both() -> Vec<u8> {
+    [sample::account_of(&x()), sample::account_of(&y())].concat()
+}
+
+/// The number that all implementations answer, with room enough.
+pub fn number_of_all(list: &List) -> u64 {
+    of_all(|engine| write(engine, list, 200 + 128 * (list.accounts.len() / 100))).0
 }

@@ -152,6 +152,29 @@ fn updates(size: usize) -> Vec<Case> {
     ]
 }
 
+fn write(engine: &Engine, case: &Case, blocks: &mut [Vec<u8>]) -> [u64; 4] {
+    let done = (engine.write)(&sample::list(&case.read[0], &case.read[1]), &mut blocks[0]);
+    [done.number, done.length, 0, 0]
+}
+
+/// The accounts in another order. Each comes once, as the number is odd and the size a power of two.
+fn scattered(size: usize) -> Vec<u8> {
+    (0..size).flat_map(|i| sample::account_of(sample::line(i * 2593 % size).as_bytes())).collect()
+}
+
+fn writings(size: usize) -> Vec<Case> {
+    let length = 192 + 128 * size;
+    let case = |(order, accounts): (&str, Vec<u8>)| Case {
+        name: format!("write, all good{order}"),
+        mode: 0,
+        written: vec![vec![0xAA; length]],
+        read: vec![sample::row(), accounts],
+        call: write,
+        expected: [0, length as u64, 0, 0],
+    };
+    [("", sample::accounts(size)), (", PANs scattered", scattered(size))].into_iter().map(case).collect()
+}
+
 pub fn all(size: usize) -> Vec<Case> {
-    [imports(size), lookups(size), read_backs(size), updates(size)].into_iter().flatten().collect()
+    [imports(size), lookups(size), read_backs(size), updates(size), writings(size)].into_iter().flatten().collect()
 }

@@ -11,6 +11,10 @@ const PARTS: [&str; 5] = ["plain", "vectors", "tried", "lists", "sample"];
 /// The files of `plain` that the vectors of forms ask first of all; the others are asked by those of imports alone.
 const OF_FORMS: [&str; 5] = ["hgv.rs", "line.rs", "rows.rs", "verdict.rs", "words.rs"];
 
+/// What the definition's functions are lent and answer, without the functions.
+const TYPES: &str =
+    "pub mod raw {\n    mod answers;\n    mod writer;\n    pub use answers::*;\n    pub use writer::List;\n}\n";
+
 /// The judge as the program of one crate with them.
 const MAIN: &str = "fn main() {\n    judge::main()\n}\n";
 
@@ -49,15 +53,17 @@ impl Workshop {
         if folder.exists() {
             told(folder, remove_dir_all(folder))?;
         }
-        told(folder, create_dir_all(folder))?;
-        copy_part(Path::new("graftspindle/src/raw/answers"), &folder.join("raw"))?;
+        told(folder, create_dir_all(folder.join("raw")))?;
+        for part in ["answers", "writer"] {
+            copy_part(&Path::new("graftspindle/src/raw").join(part), &folder.join("raw").join(part))?;
+        }
         copy_part(Path::new("checks/src/bin/judge"), &folder.join("judge"))?;
         for part in PARTS {
             copy_part(&Path::new("checks/src").join(part), &folder.join(part))?;
         }
         let parts = PARTS.map(|part| format!("mod {part};\n")).concat();
         let root = format!("extern crate self as graftspindle_checks;\n{parts}mod judge;\n{MAIN}");
-        told(folder, write(folder.join("graftspindle.rs"), "pub mod raw;\n"))?;
+        told(folder, write(folder.join("graftspindle.rs"), TYPES))?;
         told(folder, write(folder.join("changed.rs"), root))?;
         workshop.compile("graftspindle", &["--crate-type", "rlib"])?;
         Ok(workshop)
