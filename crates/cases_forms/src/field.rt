@@ -1,5 +1,15 @@
-// What is asked of a field, by its tag.
+// What is asked, by its tag.
 use crate::tell::told;
+
+fn of_list(tag: &[u8], f: &[u8], samples: &[u8; 33280]) -> u64 {
+    if texts::listed(tag, 8, b"write   account written kept    answered") {
+        return crate::given::of_writer(tag, f, samples);
+    }
+    if texts::same(tag, b"copies  ") {
+        return crate::copies::of_copies(f, samples);
+    }
+    crate::line::of_line(tag, f, samples)
+}
 
 fn of_time(tag: &[u8], f: &[u8], samples: &[u8; 33280]) -> u64 {
     if texts::same(tag, b"time    ") {
@@ -8,7 +18,7 @@ fn of_time(tag: &[u8], f: &[u8], samples: &[u8; 33280]) -> u64 {
     if texts::same(tag, b"date    ") {
         return told(times::is_real_date(f));
     }
-    crate::line::of_line(tag, f, samples)
+    of_list(tag, f, samples)
 }
 
 fn of_plate(tag: &[u8], f: &[u8], samples: &[u8; 33280]) -> u64 {

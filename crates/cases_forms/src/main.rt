@@ -1,4 +1,4 @@
-// Runs the vectors on the forms of fields, issuer rows, lines and HGVs, from the document and docs/DECISIONS.md. `stdin`
+// Runs the vectors on the forms of fields, issuer rows, lines and HGVs and on the writer, from the document and docs/DECISIONS.md. `stdin`
 // has one a line: what is asked in eight characters, a blank, and what it is asked of; `stdout` has the same lines, each
 // with its answer. A line that begins with # is a note, and `text` gives the text that a letter names. ~ stands for LF and ^
 // for CR. `each` answers the vector behind it for each value of a run of wild characters in it: # a digit, @ a capital, ? any
@@ -6,9 +6,11 @@
 use libc::STDIN_FILENO;
 use libc::STDOUT_FILENO;
 
+mod copies;
 mod each;
 mod field;
 mod file;
+mod given;
 mod line;
 mod tell;
 

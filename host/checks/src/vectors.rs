@@ -7,6 +7,7 @@ pub mod compare;
 pub mod each;
 pub mod forms;
 pub mod found;
+pub mod given;
 pub mod imports;
 pub mod many;
 pub mod pairs;

@@ -1,7 +1,7 @@
-//! The vectors on the forms of fields, issuer rows, lines and HGVs.
+//! The vectors on the forms of fields, issuer rows, lines and HGVs, and on the writer.
 
 use super::blocks::{change, field, number, rest};
-use super::{Answer, Samples};
+use super::{given, Answer, Samples};
 use crate::plain::words::{is_digit, is_real_date, is_real_time, leading};
 use crate::plain::{hgv, line, register, rows, verdict};
 
@@ -66,6 +66,8 @@ pub fn answer(samples: &Samples, tag: &[u8], f: &[u8]) -> Option<Answer> {
         b"separate" => is_separator(f),
         b"time    " => is_real_time(f),
         b"date    " => is_real_date(f),
+        b"write   " | b"account " | b"written " | b"kept    " | b"answered" => return given::answer(samples, tag, f),
+        b"copies  " => return given::of_copies(samples, f),
         _ => return of_line(samples, tag, f),
     })
 }
