@@ -1,12 +1,13 @@
 //! The command line. Each command reads files, asks the proved functions, writes files, and says what came of it.
 
 pub mod arguments;
+mod by_field;
 pub mod clock;
 mod completions;
 mod demo;
 mod entry;
-mod explain;
 mod help;
+mod hints;
 mod import;
 mod input;
 mod issuers;
@@ -22,6 +23,7 @@ mod texts;
 mod told;
 mod totals;
 mod update;
+mod write;
 
 use std::ffi::OsString;
 use std::path::Path;
@@ -57,14 +59,21 @@ impl Command {
     pub fn takes(&self) -> impl Iterator<Item = &'static Opt> {
         self.options.iter().map(|option| option.option()).chain([&options::JSON])
     }
+
+    /// Those that suffice by themselves.
+    pub fn alone(&self) -> impl Iterator<Item = &'static Opt> {
+        self.options.iter().filter(|option| matches!(option, Use::Alone(_))).map(|option| option.option())
+    }
 }
 
-static COMMANDS: [&Command; 15] = [
+static COMMANDS: [&Command; 17] = [
     &import::IMPORT,
     &lookup::PAN,
     &lookup::PLATE,
     &read_back::READ_BACK,
+    &by_field::EXPLAIN,
     &update::UPDATE,
+    &write::WRITE,
     &register::new::NEW,
     &register::show::SHOW,
     &register::list::LIST,

@@ -12,6 +12,8 @@ mod common;
 mod demo;
 #[path = "command/digest.rs"]
 mod digest;
+#[path = "command/explained.rs"]
+mod explained;
 #[path = "command/faults.rs"]
 mod faults;
 #[path = "command/hooked.rs"]
@@ -46,11 +48,17 @@ mod replaced;
 mod steps;
 #[path = "command/streams.rs"]
 mod streams;
+#[path = "command/tables.rs"]
+mod tables;
 #[path = "command/together.rs"]
 mod together;
 #[path = "command/traced.rs"]
 mod traced;
+#[path = "command/unwritten.rs"]
+mod unwritten;
 #[path = "command/users.rs"]
 mod users;
 #[path = "command/words.rs"]
 mod words;
+#[path = "command/writing.rs"]
+mod writing;

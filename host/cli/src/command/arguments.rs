@@ -5,8 +5,8 @@ use std::os::unix::ffi::OsStrExt;
 use std::path::Path;
 use std::time::Duration;
 
-use super::help::usage;
-use super::options::{Opt, WAIT};
+use super::help::usages;
+use super::options::{Opt, JSON, WAIT};
 use super::{Command, Refusal};
 
 /// What was given behind a command.
@@ -30,7 +30,8 @@ fn is_short(word: &OsStr) -> bool {
 }
 
 impl Arguments {
-    /// Refused where an option is not the command's, stands twice or lacks its value.
+    /// Refused where an option is not the command's, stands twice or lacks its value, or where something stands beside one
+    /// that suffices by itself.
     pub fn parse(command: &'static Command, given: &[OsString]) -> Result<Arguments, Refusal> {
         let mut parsed = Arguments { options: Vec::new(), rest: Vec::new(), command };
         let mut words = given.iter();
@@ -42,7 +43,19 @@ impl Arguments {
                 Some((name, value)) => parsed.add(&name, value, &mut words)?,
             }
         }
-        Ok(parsed)
+        parsed.alone().map(|()| parsed)
+    }
+
+    /// The form of the answer may be asked for beside every option.
+    fn alone(&self) -> Result<(), Refusal> {
+        let Some(alone) = self.command.alone().find(|option| self.is_given(option)) else {
+            return Ok(());
+        };
+        let others = self.options.iter().filter(|(option, _)| ![alone.name, JSON.name].contains(&option.name));
+        match others.count() + self.rest.len() {
+            0 => Ok(()),
+            _ => Err(self.fault(&format!("beside --{} nothing else is taken", alone.name))),
+        }
     }
 
     fn add<'a>(
@@ -70,7 +83,8 @@ impl Arguments {
     }
 
     fn fault(&self, words: &str) -> Refusal {
-        Refusal::Fault(format!("{words}; usage: graftspindle {}", usage(self.command)))
+        let usages: Vec<String> = usages(self.command).map(|usage| format!("graftspindle {usage}")).collect();
+        Refusal::Fault(format!("{words}; usage: {}", usages.join(", or ")))
     }
 
     fn value(&self, option: &Opt) -> Option<&OsStr> {

@@ -1,4 +1,5 @@
-//! `demo`: three providers send whitelists, and one of them follows what is held for him.
+//! `demo`: three providers send whitelists, two of them written from CSV files, and one provider follows what is held for
+//! him.
 
 use std::ffi::OsString;
 use std::fs::{self, OpenOptions};
@@ -17,8 +18,9 @@ pub static DEMO: Command = Command {
     options: &[],
     words: &["[FOLDER]"],
     help: "\
-Makes a small register, imports whitelists of three providers into it, applies the confirmations to one provider's copy and
-compares the copy with the records held for him. Works in FOLDER and leaves its files there, or in a folder that goes again.
+Makes a small register, writes the whitelists of two providers from CSV files, imports these and a third provider's into
+it, applies the confirmations to one provider's copy and compares the copy with the records held for him. Works in FOLDER
+and leaves its files there, or in a folder that goes again.
 ",
     run,
 };
@@ -26,14 +28,23 @@ compares the copy with the records held for him. Works in FOLDER and leaves its 
 const FILES: [(&str, &[u8]); 5] = [
     ("issuers.ait", include_bytes!("../../demo/issuers.ait")),
     ("900123-incremental.hgv", include_bytes!("../../demo/900123-incremental.hgv")),
-    ("900124-incremental.hgv", include_bytes!("../../demo/900124-incremental.hgv")),
-    ("900125-incremental.hgv", include_bytes!("../../demo/900125-incremental.hgv")),
+    ("900124.csv", include_bytes!("../../demo/900124.csv")),
+    ("900125.csv", include_bytes!("../../demo/900125.csv")),
     ("900123-full.hgv", include_bytes!("../../demo/900123-full.hgv")),
 ];
 
 /// What is said, and the commands, in their order. A word that names a file of the demo begins with `/`.
-const STORY: [(&str, &[&str]); 10] = [
+const STORY: [(&str, &[&str]); 11] = [
     ("The issuers that are accepted, three providers", &["issuers from-ait --issuers /rows /issuers.ait"]),
+    (
+        "Two providers write their lists from spreadsheets; 900123 has a program of his own, which makes mistakes",
+        &[
+            "write --issuers /rows --sender 900124 --version 120001 --date 20250310 --number 1 --created 20250310041000 \
+             --hgv /900124-incremental.hgv /900124.csv",
+            "write --issuers /rows --sender 900125 --version 120001 --date 20250310 --number 1 --created 20250310042000 \
+             --hgv /900125-incremental.hgv /900125.csv",
+        ],
+    ),
     (
         "A register of 16 slots, and a copy for provider 900123",
         &["register new --slots 16 /register", "register new --slots 16 /copy"],

@@ -22,9 +22,19 @@ number and what it means. Where the status is not 0, nothing was changed unless 
 
 /// The command's words and options, in their order.
 pub fn usage(command: &Command) -> String {
-    let options = command.options.iter().map(|option| option.usage());
+    let options = command.options.iter().filter_map(|option| option.usage());
     let words = command.words.iter().map(|word| word.to_string());
     [command.name.to_string()].into_iter().chain(options).chain(words).collect::<Vec<String>>().join(" ")
+}
+
+/// The usage of each option that suffices by itself, and what it does.
+pub fn others(command: &Command) -> impl Iterator<Item = (String, &'static str)> + '_ {
+    command.alone().map(|option| (format!("{} {}", command.name, option.usage()), option.about))
+}
+
+/// All its usages.
+pub fn usages(command: &Command) -> impl Iterator<Item = String> + '_ {
+    [usage(command)].into_iter().chain(others(command).map(|(usage, _)| usage))
 }
 
 fn options(command: &Command) -> String {
@@ -33,11 +43,13 @@ fn options(command: &Command) -> String {
 }
 
 pub fn of(command: &Command) -> Told {
-    Told::new(format!("graftspindle {}\n\n{}\n{}\n{STATUS}", usage(command), command.help, options(command)))
+    let usages: String = usages(command).map(|usage| format!("graftspindle {usage}\n")).collect();
+    Told::new(format!("{usages}\n{}\n{}\n{STATUS}", command.help, options(command)))
 }
 
 fn all() -> Told {
-    let usages: String = COMMANDS.iter().map(|command| format!("  graftspindle {}\n", usage(command))).collect();
+    let usages = COMMANDS.iter().flat_map(|command| usages(command));
+    let usages: String = usages.map(|usage| format!("  graftspindle {usage}\n")).collect();
     let head = "The account register of a group of toll roads.";
     Told::new(format!("{head}\n\n{usages}\nEach has a --help of its own, and takes --json.\n\n{STATUS}"))
 }

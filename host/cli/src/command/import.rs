@@ -5,11 +5,11 @@ use std::path::Path;
 use super::arguments::Arguments;
 use super::entry::{self, Entry};
 use super::input::Input;
-use super::kinds::{may_replace, Kind};
+use super::kinds::{may_replace, must_be_apart, Kind};
 use super::options::Use::{Needed, Optional};
 use super::options::{FORCE, HGC, ISSUERS, JOURNAL, MODE, RECEIVED, REGISTER, WAIT};
 use super::totals::Totals;
-use super::{clock, explain, input, mode, texts, Answer, Command, Refusal, Told};
+use super::{clock, hints, input, mode, texts, Answer, Command, Refusal, Told};
 use crate::files::{Disk, Fault, Held, Place};
 use graftspindle::sizes::{HGV_MOST, ROW, ROWS_MOST};
 use graftspindle::{Import, Number, Register};
@@ -45,11 +45,7 @@ fn place_of_hgc(disk: &dyn Disk, given: &Arguments, hgv: &Path) -> Result<Place,
     }
     let hgc = Place::of_file(given.path(&HGC)?)?;
     let others = [given.path(&REGISTER)?, given.path(&ISSUERS)?, hgv];
-    for other in others.into_iter().chain(given.path_if_given(&JOURNAL)) {
-        if other.canonicalize().is_ok_and(|other| other == hgc.path()) {
-            return Err(Refusal::Fault(format!("--hgc would replace {}", other.display())));
-        }
-    }
+    must_be_apart(&HGC, &hgc, others.into_iter().chain(given.path_if_given(&JOURNAL)))?;
     may_replace(disk, given, &hgc, Kind::Hgc)?;
     Ok(hgc)
 }
@@ -69,9 +65,9 @@ fn explained(number: Number, import: &Import, names: &Names, register: &[u8]) ->
         Number::Time => Refusal::Number(number, texts::shown(import.reception)),
         Number::Order => Refusal::Number(number, names.register.to_string()),
         Number::Rows => Refusal::Number(number, rows.name.clone()),
-        Number::Parties => explain::of_parties(hgv, rows),
-        Number::Slots => explain::of_slots(names.register, register, |largest| largest.import(import).map(|_| ())),
-        other => explain::of_hgv(other, hgv),
+        Number::Parties => hints::of_parties(hgv, rows),
+        Number::Slots => hints::of_slots(names.register, register, |largest| largest.import(import).map(|_| ())),
+        other => hints::of_hgv(other, hgv),
     }
 }
 

@@ -1,14 +1,18 @@
 //! What is at the place where something is to be written: it is replaced where it is empty or of the same kind.
 
+use std::path::Path;
+
 use super::arguments::Arguments;
-use super::options::FORCE;
+use super::options::{Opt, FORCE};
 use super::Refusal;
 use crate::files::{Disk, Place};
-use graftspindle::sizes::{FOOTER, HGC_HEADER, HGC_LINE, HGC_MOST, LINE, ROW, ROWS_MOST};
+use graftspindle::sizes::{FOOTER, HGC_HEADER, HGC_LINE, HGC_MOST, HGV_MOST, LINE, ROW, ROWS_MOST};
+use graftspindle::Number;
 
 /// What is to be written.
 pub enum Kind {
     Hgc,
+    Hgv,
     Rows,
 }
 
@@ -16,6 +20,7 @@ impl Kind {
     fn most(&self) -> usize {
         match self {
             Kind::Hgc => HGC_MOST,
+            Kind::Hgv => HGV_MOST,
             Kind::Rows => ROW * ROWS_MOST,
         }
     }
@@ -23,6 +28,7 @@ impl Kind {
     fn words(&self) -> &'static str {
         match self {
             Kind::Hgc => "no HGC",
+            Kind::Hgv => "no HGV",
             Kind::Rows => "no table of issuer rows",
         }
     }
@@ -30,6 +36,7 @@ impl Kind {
     fn fits(&self, bytes: &[u8]) -> bool {
         match self {
             Kind::Hgc => is_hgc(bytes),
+            Kind::Hgv => is_hgv(bytes),
             Kind::Rows => graftspindle::rows_in_form(bytes).is_ok(),
         }
     }
@@ -45,6 +52,25 @@ pub fn may_replace(disk: &dyn Disk, given: &Arguments, place: &Place, kind: Kind
     }
     let (name, words) = (place.path().display(), kind.words());
     Err(Refusal::Fault(format!("{name} is there and is {words}: it is not replaced; --force replaces it")))
+}
+
+/// What is written must not fall on what it is made from.
+pub fn must_be_apart<'a>(
+    option: &Opt,
+    place: &Place,
+    others: impl IntoIterator<Item = &'a Path>,
+) -> Result<(), Refusal> {
+    for other in others {
+        if other.canonicalize().is_ok_and(|other| other == place.path()) {
+            return Err(Refusal::Fault(format!("--{} would replace {}", option.name, other.display())));
+        }
+    }
+    Ok(())
+}
+
+/// Asked of the proved reading back: it looks at the HGC, which here is none, only once the HGV is in form.
+fn is_hgv(bytes: &[u8]) -> bool {
+    graftspindle::read_back(bytes, &[]) == Err(Number::Hgc)
 }
 
 /// Asked of the proved reading back, beside the HGV that has the HGC's lines and no other. How many lines of the true one

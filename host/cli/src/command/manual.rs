@@ -1,7 +1,7 @@
 //! `manual`: the manual page, made from the same table as parsing and help.
 
 use super::arguments::Arguments;
-use super::help::{usage, STATUSES};
+use super::help::{others, usage, STATUSES};
 use super::options::{Opt, HELP};
 use super::{Answer, Command, Told, COMMANDS};
 use crate::files::Disk;
@@ -29,6 +29,11 @@ fn entry(head: &str, text: &str) -> String {
     format!(".TP\n.B {}{}", plain(head), plain(text))
 }
 
+fn of_command(command: &Command) -> String {
+    let others: String = others(command).map(|(usage, about)| entry(&usage, about)).collect();
+    entry(&usage(command), command.help) + &others
+}
+
 /// Each option of all commands, once.
 fn options() -> Vec<&'static Opt> {
     let mut all: Vec<&Opt> = COMMANDS.iter().flat_map(|command| command.takes()).chain([&HELP]).collect();
@@ -45,7 +50,7 @@ fn statuses() -> String {
 
 fn run(_disk: &dyn Disk, given: &Arguments) -> Answer {
     let [] = given.rest()?;
-    let commands: String = COMMANDS.iter().map(|command| entry(&usage(command), command.help)).collect();
+    let commands: String = COMMANDS.iter().map(|command| of_command(command)).collect();
     let options: String = options().into_iter().map(|option| entry(&option.usage(), option.about)).collect();
     let version = env!("CARGO_PKG_VERSION");
     Ok(Told::new(format!(

@@ -29,20 +29,23 @@ pub enum Use {
     Needed(&'static Opt),
     /// It may be missing.
     Optional(&'static Opt),
+    /// It suffices by itself: beside it nothing is needed and nothing is taken.
+    Alone(&'static Opt),
 }
 
 impl Use {
     /// The option itself.
     pub fn option(self) -> &'static Opt {
-        let (Use::Needed(option) | Use::Optional(option)) = self;
+        let (Use::Needed(option) | Use::Optional(option) | Use::Alone(option)) = self;
         option
     }
 
-    /// As the usage has it: `--hgc OUT`, `[--force]`.
-    pub fn usage(self) -> String {
+    /// As the usage has it: `--hgc OUT`, `[--force]`; none where it has a usage of its own.
+    pub fn usage(self) -> Option<String> {
         match self {
-            Use::Needed(option) => option.usage(),
-            Use::Optional(option) => format!("[{}]", option.usage()),
+            Use::Needed(option) => Some(option.usage()),
+            Use::Optional(option) => Some(format!("[{}]", option.usage())),
+            Use::Alone(_) => None,
         }
     }
 }
@@ -88,8 +91,23 @@ option!(
     "How long another import is waited for; as long as it takes unless given."
 );
 option!(JOURNAL, "journal", "J", Kind::File, "The journal for the audit, which gets a line of JSON for this command.");
+option!(SENDER, "sender", "S", Kind::Text, "The provider whose list it is: six digits.");
+option!(VERSION, "version", "V", Kind::Text, "The version of the list: 120001 or 220001.");
+option!(DATE, "date", "D", Kind::Text, "The date of the list, YYYYMMDD.");
+option!(NUMBER, "number", "N", Kind::Text, "The number of the list within its date, 1 to 99.");
+option!(PREVIOUS, "previous", "LIST", Kind::Text, "The list before it, as HGV9001232025031001; none unless given.");
+option!(
+    CREATED,
+    "created",
+    "T",
+    Kind::Text,
+    "The moment of creation, YYYYMMDDhhmmss; the present one, UTC, unless given."
+);
+option!(HGV, "hgv", "OUT", Kind::File, "Where the list is written.");
+option!(TEMPLATE, "template", "Prints a CSV file to begin with: the names of the fields, and three accounts.");
 option!(FORCE, "force", "Replaces what is there, of whatever kind it is.");
 option!(REJECTED, "rejected", "Only the lines that were rejected.");
+option!(LINE_NUMBER, "line", "N", Kind::Text, "That line alone, counted from 1.");
 option!(DISCARD, "discard", "Removes what was left, with an HGC that is still owed.");
 option!(JSON, "json", "Answers by one line of JSON, at a refusal too.");
 option!(HELP, "help", "Says what the command does; -h does too.");

@@ -4,7 +4,7 @@ use super::arguments::Arguments;
 use super::json::Json;
 use super::options::Use::Optional;
 use super::options::REJECTED;
-use super::{explain, input, texts, Answer, Command, Told};
+use super::{hints, input, texts, Answer, Command, Told};
 use crate::files::Disk;
 use graftspindle::sizes::{HEADER, LINE};
 use graftspindle::Verdict;
@@ -40,7 +40,7 @@ fn run(disk: &dyn Disk, given: &Arguments) -> Answer {
     let [hgv, hgc] = given.rest()?;
     let (hgv, hgc) = input::pair(disk, hgv, hgc)?;
     let read = graftspindle::read_back(&hgv.bytes, &hgc.bytes);
-    let (counts, verdicts) = read.map_err(|number| explain::of_pair(number, &hgv, &hgc))?;
+    let (counts, verdicts) = read.map_err(|number| hints::of_pair(number, &hgv, &hgc))?;
     let asked = |verdict: Verdict| verdict != Verdict::Taken || !given.is_given(&REJECTED);
     let lines = (1..).zip(lines(&hgv.bytes)).zip(verdicts).filter(|&(_, verdict)| asked(verdict));
     let lines: Vec<_> = lines.map(|((number, line), verdict)| (number, line, verdict)).collect();

@@ -75,6 +75,10 @@ pub fn count(hgv: &[u8]) -> String {
     }
 }
 
+pub fn creation(hgv: &[u8]) -> String {
+    of_header(hgv, 81, 94)
+}
+
 pub fn version(hgv: &[u8]) -> String {
     of_header(hgv, 95, 100)
 }

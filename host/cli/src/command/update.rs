@@ -5,7 +5,7 @@ use super::entry::{self, Entry};
 use super::options::Use::{Needed, Optional};
 use super::options::{COPY, JOURNAL, MODE, WAIT};
 use super::totals::Totals;
-use super::{explain, input, mode, Answer, Command, Refusal, Told};
+use super::{hints, input, mode, Answer, Command, Refusal, Told};
 use crate::files::{Disk, Fault, Held, Place};
 use graftspindle::{Counts, Number, Register};
 
@@ -39,8 +39,8 @@ fn update<'a>(disk: &'a dyn Disk, given: &Arguments, entry: &mut Entry<'a>) -> A
     let update = |copy: &mut Register| copy.update(mode, &hgv.bytes, &hgc.bytes);
     let counts = update(&mut copy).map_err(|number| match number {
         Number::Order | Number::OtherActor => Refusal::Number(number, name.clone()),
-        Number::Slots => explain::of_slots(&name, &before, |largest| update(largest).map(|_| ())),
-        other => explain::of_pair(other, &hgv, &hgc),
+        Number::Slots => hints::of_slots(&name, &before, |largest| update(largest).map(|_| ())),
+        other => hints::of_pair(other, &hgv, &hgc),
     })?;
     let replaced = held.replace(copy.bytes(), None);
     if matches!(replaced, Ok(()) | Err(Fault::Counts(_))) {

@@ -2,7 +2,7 @@
 
 use crate::common::*;
 use graftspindle::sizes::SLOT;
-use graftspindle::{raw, Mode, Number, Reason, Register, Verdict};
+use graftspindle::{raw, List, Mode, Number, Reason, Register, Verdict, NO_LIST};
 use graftspindle_checks::sample;
 
 fn words_of(number: u64) -> &'static str {
@@ -79,7 +79,7 @@ fn more_slots_than_any_register_has() {
     }
 }
 
-/// The command gives a mode of the two, and room for both blocks: 21, 34 and 53 only the functions can answer.
+/// The command gives a mode of the two, and room for every block: 21, 34, 53 and 63 only the functions can answer.
 #[test]
 fn numbers_that_the_command_cannot_get() {
     let (rows, hgv) = (sample::row(), sample::hgv(1));
@@ -91,11 +91,23 @@ fn numbers_that_the_command_cannot_get() {
     assert_eq!(import(1, &mut hgc), 0);
     assert_eq!(raw::read_back(&hgv, &hgc, &mut []).number, 53);
     assert_eq!(graftspindle::read_back(&hgv, &[]), Err(Number::Hgc));
+    let list = List {
+        version: 120001,
+        sender: b"900123",
+        date: b"20250310",
+        number: 1,
+        previous: NO_LIST,
+        creation: b"20250310040000",
+        rows: &rows,
+        accounts: b"",
+    };
+    assert_eq!(raw::write(&list, &mut [0; 191]).number, 63);
+    assert_eq!(raw::write(&list, &mut [0; 192]).number, 0);
 }
 
 #[test]
 fn every_number_has_words_of_its_own() {
-    let numbers: Vec<u64> = (21..=34).chain(40..=42).chain(51..=53).collect();
+    let numbers: Vec<u64> = (21..=34).chain(40..=42).chain(51..=53).chain(61..=63).collect();
     let mut all: Vec<&str> = numbers.iter().map(|&number| words_of(number)).collect();
     all.sort();
     all.dedup();
@@ -153,6 +165,11 @@ fn faults_of_the_command_line() {
         "read-back @hgv",
         &IMPORT.replace("incremental", "both"),
         "lookup plate --register @register Ł1 NO",
+        "write",
+        "write --template @hgv",
+        "write --template --sender 900123",
+        "write --template --template",
+        "write --template=yes",
     ] {
         let before = folder.all();
         let done = graftspindle(&folder, line);
@@ -168,12 +185,13 @@ fn help_of_each() {
     let all = graftspindle(&folder, "--help");
     assert_eq!((all.status, all.fault.as_str()), (0, ""));
     let usages: Vec<&str> = all.said.lines().filter(|line| line.starts_with("  graftspindle ")).collect();
-    assert_eq!(usages.len(), 15);
+    assert_eq!(usages.len(), 18);
     for usage in usages {
         let plain = |word: &&str| word.chars().all(|c| c.is_ascii_lowercase() || c == '-') && !word.starts_with("--");
         let name: Vec<&str> = usage.split_whitespace().skip(1).take_while(plain).collect();
         let help = graftspindle(&folder, &format!("{} --help", name.join(" ")));
         assert_eq!((help.status, help.fault.as_str()), (0, ""), "{name:?}");
-        assert!(help.said.starts_with(usage.trim_start()) && help.said.contains("Exit status"));
+        let usages = help.said.lines().take_while(|line| !line.is_empty()).collect::<Vec<&str>>();
+        assert!(usages.contains(&usage.trim_start()) && help.said.contains("Exit status"), "{usage}");
     }
 }

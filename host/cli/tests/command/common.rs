@@ -3,8 +3,9 @@
 use graftspindle::raw;
 use graftspindle_checks::sample;
 use std::fs;
+use std::io::Write;
 use std::path::{Path, PathBuf};
-use std::process::{Command, Output};
+use std::process::{Command, Output, Stdio};
 use std::sync::atomic::{AtomicUsize, Ordering};
 
 /// Goes with the test.
@@ -79,6 +80,16 @@ pub fn words(folder: &Folder, line: &str) -> Vec<String> {
 
 pub fn graftspindle(folder: &Folder, line: &str) -> Ran {
     ran(Command::new(program()).args(words(folder, line)).output().expect("the command runs"))
+}
+
+/// The same with this on its standard input.
+pub fn fed(folder: &Folder, line: &str, input: &[u8]) -> Ran {
+    let mut command = Command::new(program());
+    command.args(words(folder, line)).stdin(Stdio::piped()).stdout(Stdio::piped()).stderr(Stdio::piped());
+    let mut child = command.spawn().expect("it starts");
+    // One who refuses at once does not read.
+    let _ = child.stdin.take().expect("piped").write_all(input);
+    ran(child.wait_with_output().expect("it ends"))
 }
 
 pub const IMPORT: &str =

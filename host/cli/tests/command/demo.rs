@@ -1,6 +1,7 @@
 //! The demo ends as it says.
 
 use crate::common::*;
+use crate::tables::expected;
 
 #[test]
 fn demo_in_a_folder_and_without_one() {
@@ -11,6 +12,9 @@ fn demo_in_a_folder_and_without_one() {
     let last = told.said.lines().last().expect("it says something");
     assert!(last.starts_with("The copy of provider 900123 equals the records held for him: 3 records"), "{last}");
     assert!(exists(&folder, "kept/register") && exists(&folder, "kept/900123-full.hgc"));
+    for name in ["900124-incremental.hgv", "900125-incremental.hgv"] {
+        assert!(folder.read(&format!("kept/{name}")) == expected(name), "{name}");
+    }
     let again = graftspindle(&folder, "demo");
     assert_eq!((again.status, again.said), (0, told.said));
     assert_eq!(graftspindle(&folder, "demo @kept").status, 1, "nothing is overwritten");

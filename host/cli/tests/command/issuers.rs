@@ -8,7 +8,7 @@ use std::ffi::OsString;
 use std::process::Stdio;
 use std::time::Duration;
 
-const ROWS: &[u8] = b"97990012      081690012397990024      081690012495780007      0819900125";
+pub const ROWS: &[u8] = b"97990012      081690012397990024      081690012495780007      0819900125";
 
 fn ait() -> Vec<u8> {
     std::fs::read(AIT).expect("the demo has it")

@@ -23,6 +23,7 @@ fn files_without_an_end() {
     for (name, status) in [("@hgv", 25), ("@rows", 24)] {
         assert_refused_at_once(&folder, &IMPORT.replace(name, "/dev/zero"), status);
     }
+    assert_refused_at_once(&folder, "explain /dev/zero", 25);
     assert_refused_at_once(&folder, "read-back /dev/zero @hgc", 25);
     assert_refused_at_once(&folder, "read-back @hgv /dev/zero", 52);
     assert_refused_at_once(&folder, "update --copy @register --mode full /dev/zero @hgc", 25);

@@ -4,8 +4,7 @@ use crate::common::*;
 use crate::steps::{faulty, run, Fate};
 use graftspindle_checks::sample;
 use graftspindle_cli::files::{lock, Place};
-use std::io::Write;
-use std::process::{Command, Stdio};
+use std::process::Command;
 
 fn said(folder: &Folder, line: &str) -> String {
     let done = graftspindle(folder, line);
@@ -90,15 +89,6 @@ fn json_of_any_name() {
     let done = ran(command.args(["register", "show", "--json"]).arg(name).output().expect("it runs"));
     assert!(done.said.contains("a\\\"b\\\\c\\u000ad"), "{}", done.said);
     assert_eq!((done.status, done.said.lines().count()), (1, 1));
-}
-
-fn fed(folder: &Folder, line: &str, input: &[u8]) -> Ran {
-    let mut command = Command::new(program());
-    command.args(words(folder, line)).stdin(Stdio::piped()).stdout(Stdio::piped()).stderr(Stdio::piped());
-    let mut child = command.spawn().expect("it starts");
-    // One who refuses at once does not read.
-    let _ = child.stdin.take().expect("piped").write_all(input);
-    ran(child.wait_with_output().expect("it ends"))
 }
 
 #[test]

@@ -61,11 +61,16 @@ pub fn of_parties(hgv: &Input, rows: &Input) -> Refusal {
     if graftspindle::read_back(&hgv.bytes, &[]) == Err(Number::Parties) {
         return of_hgv(Number::Parties, hgv);
     }
-    let mut actors: Vec<String> = rows.bytes.chunks(ROW).map(|row| texts::shown(&row[ROW - 6..])).collect();
-    actors.dedup();
-    let (sender, known) = (texts::sender(&hgv.bytes), actors.join(", "));
+    let (sender, known) = (texts::sender(&hgv.bytes), actors(rows));
     let words = format!("{} has no row of {sender}, the sender of {}; its actors: {known}", rows.name, hgv.name);
     Refusal::Number(Number::Parties, words)
+}
+
+/// The actors of issuer rows in form.
+pub fn actors(rows: &Input) -> String {
+    let mut actors: Vec<String> = rows.bytes.chunks(ROW).map(|row| texts::shown(&row[ROW - 6..])).collect();
+    actors.dedup();
+    actors.join(", ")
 }
 
 /// How many slots are short: the same is tried on a register with as many free slots behind it as there can be.
@@ -85,6 +90,7 @@ pub fn of_slots(name: &str, bytes: &[u8], again: impl FnOnce(&mut Register) -> R
     Refusal::Number(Number::Slots, words)
 }
 
-fn parts(count: usize, word: &str) -> String {
+/// `1 slot`, `2 slots`.
+pub fn parts(count: usize, word: &str) -> String {
     format!("{count} {word}{}", if count == 1 { "" } else { "s" })
 }
