@@ -16,20 +16,36 @@ pub struct Journal {
 /// What each line begins with.
 const BEGIN: u8 = b'{';
 
-/// No link is followed.
-fn open(path: &Path) -> io::Result<File> {
+fn options() -> OpenOptions {
     let mut options = OpenOptions::new();
     options.read(true).append(true).mode(0o640);
-    match path.symlink_metadata() {
-        Err(fault) if fault.kind() == io::ErrorKind::NotFound => {
-            let file = options.create_new(true).open(path)?;
-            let folder = path.parent().filter(|folder| *folder != Path::new("")).unwrap_or(Path::new("."));
-            File::open(folder)?.sync_all()?;
-            Ok(file)
-        }
-        Ok(known) if known.is_file() => options.open(path),
-        Ok(_) => Err(io::Error::other("it is no plain file")),
-        Err(fault) => Err(fault),
+    options
+}
+
+/// The name is on the disk when this returns.
+fn made(path: &Path) -> io::Result<File> {
+    let file = options().create_new(true).open(path)?;
+    let folder = path.parent().filter(|folder| *folder != Path::new("")).unwrap_or(Path::new("."));
+    File::open(folder)?.sync_all()?;
+    Ok(file)
+}
+
+/// No link is followed.
+fn known(path: &Path) -> io::Result<File> {
+    match path.symlink_metadata()?.is_file() {
+        true => options().open(path),
+        false => Err(io::Error::other("it is no plain file")),
+    }
+}
+
+/// Where there is none it is made, by one of those who begin it together.
+fn open(path: &Path) -> io::Result<File> {
+    match known(path) {
+        Err(fault) if fault.kind() == io::ErrorKind::NotFound => match made(path) {
+            Err(fault) if fault.kind() == io::ErrorKind::AlreadyExists => known(path),
+            made => made,
+        },
+        known => known,
     }
 }
 

@@ -2,9 +2,11 @@
 
 use crate::common::*;
 use graftspindle_checks::sample;
-use graftspindle_cli::audit::{number, text};
+use graftspindle_cli::audit::{number, text, Journal};
 use graftspindle_cli::digest;
 use std::process::Stdio;
+use std::sync::Barrier;
+use std::thread;
 
 fn with_journal(line: &str) -> String {
     line.replacen(" --mode", " --journal @journal --mode", 1)
@@ -172,4 +174,22 @@ fn line_of_a_larger_register() {
     assert_eq!(graftspindle(&folder, "register grow --journal @journal --slots 12 @register").status, 0);
     folder.write("hgv", &hgv_of("2025031101", "9001232025031001"));
     assert_eq!(graftspindle(&folder, &with_journal(IMPORT)).fault, "");
+}
+
+/// Those who find no journal in the same moment all get it.
+#[test]
+fn begun_together() {
+    for _ in 0..100 {
+        let folder = Folder::new();
+        let (path, together) = (folder.path("journal"), Barrier::new(8));
+        let open = || {
+            together.wait();
+            Journal::open(&path).map(|_| ())
+        };
+        let opened: Vec<_> = thread::scope(|scope| {
+            let all: Vec<_> = (0..8).map(|_| scope.spawn(open)).collect();
+            all.into_iter().map(|one| one.join().expect("it ends")).collect()
+        });
+        assert!(opened.iter().all(Result::is_ok), "{opened:?}");
+    }
 }
