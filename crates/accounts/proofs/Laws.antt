@@ -72,14 +72,14 @@ module _ (at : ℕ) (a s₀ : List ℕ) (room : at + lineLength ≤ length s₀)
 
   pub end-written : (s₁ s₂ s₃ s₄ : List ℕ)
       → s₁ ≡ putField (at + 101) (field 85 98 a) s₀ → s₂ ≡ putField (at + 115) (field 99 100 a) s₁ → s₃ ≡ putField (at + 117) (bytes "00000000000") s₂
-      → s₄ ≡ putField (at + 128) lineEnd s₃
+      → s₄ ≡ putField (at + lineLength) lineEnd s₃
       → s₄ ≡ putField (at + 101) (flat (endTexts a)) s₀
   end-written s₁ s₂ s₃ s₄ e₁ e₂ e₃ e₄ =
-      in-turn {r = at + 129}
+      in-turn {r = at + lineLength + 1}
       (then {q = at + 115} e₁ (omega (arith, wide 85 98 (omega arith) (omega arith)))
       (then {q = at + 117} e₂ (omega (arith, wide 99 100 (omega arith) (omega arith)))
-      (then {q = at + 128} e₃ (omega arith)
-      (then {q = at + 129} e₄ (omega arith) all-done)))) (omega arith) (omega arith)
+      (then {q = at + lineLength} e₃ (omega arith)
+      (then {q = at + lineLength + 1} e₄ (omega arith) all-done)))) (omega arith) (omega arith)
 
 -- the five parts of the line are the line
 parts-line : (sender a : List ℕ) → flat (flat (keyTexts sender a) ∷ flat (tagTexts a) ∷ flat (productTexts a) ∷ flat (measureTexts a) ∷ flat (endTexts a) ∷ []) ≡ accountLine sender a
@@ -92,10 +92,10 @@ pub line-written : (from : ℕ) (sender a s₀ s₁ s₂ s₃ s₄ s₅ : List �
     → s₅ ≡ putField from (accountLine sender a) s₀
 line-written from sender a s₀ s₁ s₂ s₃ s₄ s₅ o r l m e₁ e₂ e₃ e₄ e₅ =
     let f : from - 1 + 1 ≡ from = omega arith in
-    in-turn {p = from} {r = from - 1 + 129}
+    in-turn {p = from} {r = from - 1 + lineLength + 1}
     (then {q = from - 1 + 46} (e₁ ∙ rw f) (omega (arith, length-pieces (keys-wide a m sender l)))
     (then {q = from - 1 + 80} e₂ (omega (arith, length-pieces (tag-wide a m)))
     (then {q = from - 1 + 92} e₃ (omega (arith, length-pieces (product-wide a m)))
     (then {q = from - 1 + 101} e₄ (omega (arith, length-pieces (measures-wide a m)))
-    (then {q = from - 1 + 129} e₅ (omega (arith, length-pieces (end-wide a m))) all-done))))) o (omega arith)
+    (then {q = from - 1 + lineLength + 1} e₅ (omega (arith, length-pieces (end-wide a m))) all-done))))) o (omega arith)
     ∙ put-ap from s₀ (parts-line sender a)

@@ -18,7 +18,7 @@ use Rattle.theory.specs.Parts.{chop, partAt}
 use Rattle.theory.specs.laws.Parts.{part-fits, length-part}
 use Rattle.theory.specs.Join.{flat}
 use Rattle.theory.specs.laws.Join.{flat-append, length-flat, chop-snoc}
-use Rattle.sizes.specs.Sizes.{headerLength, lineLength, linesMost}
+use Rattle.sizes.specs.Sizes.{headerLength, lineLength, footerLength, linesMost}
 use Rattle.texts.specs.Field.{lineEnd}
 use Rattle.texts.specs.laws.Pieces.{length-pieces}
 use Rattle.writing.specs.Put.{putField}
@@ -47,7 +47,7 @@ line-alone sender a z l e n s k =
     let m : length (accountLine sender a) ≡ lineLength = length-line a k sender s in
     let f : List ℕ = accountLine sender a in
     let q : length f ≡ length z = m ∙ sym n in
-    laid-front 129 f z l (laid 1 129 f z l e (omega arith) (omega arith) (omega arith)) ∙ rw (q, drop-length z) (append-nil f)
+    laid-front (lineLength + 1) f z l (laid 1 (lineLength + 1) f z l e (omega arith) (omega arith) (omega arith)) ∙ rw (q, drop-length z) (append-nil f)
 
 pub faultless-is : (rows sender a z l : List ℕ) (v : ℕ) → l ≡ putField 1 (accountLine sender a) z → length z ≡ lineLength → length sender ≡ senderLength → length a ≡ accountLength
     → v ≡ lineFault rows sender l → eqb v 0 ≡ faultlessLine rows sender a
@@ -80,16 +80,16 @@ names-written number sender date previous s₀ s₁ s₂ s₃ s₄ s₅ r s d p 
 
 pub claims-written : (count version : ℕ) (creation s₀ s₁ s₂ s₃ s₄ s₅ s₆ : List ℕ) → headerLength ≤ length s₀ → length creation ≡ 14
     → s₁ ≡ putField 52 (zeros 14) s₀ → s₂ ≡ putField 66 (decimal 15 count) s₁ → s₃ ≡ putField 81 creation s₂
-    → s₄ ≡ putField 95 (decimal 6 version) s₃ → s₅ ≡ putField 101 (zeros 27) s₄ → s₆ ≡ putField 128 lineEnd s₅
+    → s₄ ≡ putField 95 (decimal 6 version) s₃ → s₅ ≡ putField 101 (zeros 27) s₄ → s₆ ≡ putField headerLength lineEnd s₅
     → s₆ ≡ putField 52 (flat (claimTexts count creation version)) s₀
 claims-written count version creation s₀ s₁ s₂ s₃ s₄ s₅ s₆ r c e₁ e₂ e₃ e₄ e₅ e₆ =
-    in-turn {r = 129}
+    in-turn {r = headerLength + 1}
     (then {q = 66} e₁ (omega (arith, length-zeros 14))
     (then {q = 81} e₂ (omega (arith, length-decimal 15 count))
     (then {q = 95} e₃ (omega arith)
     (then {q = 101} e₄ (omega (arith, length-decimal 6 version))
-    (then {q = 128} e₅ (omega (arith, length-zeros 27))
-    (then {q = 129} e₆ refl all-done)))))) (omega arith) (omega arith)
+    (then {q = headerLength} e₅ (omega (arith, length-zeros 27))
+    (then {q = headerLength + 1} e₆ refl all-done)))))) (omega arith) (omega arith)
 
 -- ---- the lines: those of the first i accounts stand behind the header; o is the buffer before
 
@@ -176,7 +176,7 @@ in-front f s = let z : 0 + length f ≡ length f = omega arith in rw z
 pub file-written : (g : Given) → Kept g → (s₀ s₁ s₂ s₃ s₄ : List ℕ) → fileLength (accountsIn (g .accounts)) ≤ length s₀
     → s₁ ≡ putField 1 (flat (listTexts (g .sender) (g .date) (g .number) (g .previous))) s₀
     → s₂ ≡ putField 52 (flat (claimTexts (accountsIn (g .accounts)) (g .creation) (g .version))) s₁
-    → s₃ ≡ putField 129 (flat (map (accountLine (g .sender)) (chop accountLength (accountsIn (g .accounts)) (g .accounts)))) s₂
+    → s₃ ≡ putField (headerLength + 1) (flat (map (accountLine (g .sender)) (chop accountLength (accountsIn (g .accounts)) (g .accounts)))) s₂
     → s₄ ≡ putField (headerLength + accountsIn (g .accounts) * lineLength + 1) foot s₃
     → s₄ ≡ outWritten g s₀
 unfolding outWritten fileOf headOf linesFor accountsOf
@@ -188,11 +188,11 @@ file-written g k s₀ s₁ s₂ s₃ s₄ r e₁ e₂ e₃ e₄ =
     let l₁ : length (flat names) ≡ 51 = length-pieces (names-wide (g .sender) (g .date) (g .number) (g .previous) (sender-length g k) (date-length g k) (previous-length g k)) in
     let l₂ : length (flat claims) ≡ 77 = length-pieces (claims-wide n (g .creation) (g .version) (creation-length g k)) in
     let l₃ : length (flat ls) ≡ n * lineLength = length-flat lineLength (each-line-for g k) ∙ rw (length-lines-for g k) in
-    in-turn {p = 1} {r = 193 + n * lineLength}
+    in-turn {p = 1} {r = headerLength + n * lineLength + footerLength + 1}
     (then {q = 52} e₁ (omega arith)
-    (then {q = 129} e₂ (omega arith)
+    (then {q = headerLength + 1} e₂ (omega arith)
     (then {q = headerLength + n * lineLength + 1} e₃ (omega arith)
-    (then {q = 193 + n * lineLength} e₄ (omega (arith, length-foot)) all-done)))) (omega arith) (omega arith)
+    (then {q = headerLength + n * lineLength + footerLength + 1} e₄ (omega (arith, length-foot)) all-done)))) (omega arith) (omega arith)
     ∙ rw (joined-parts names claims (flat ls) foot) (in-front (flat (names ++ claims) ++ (flat ls ++ foot)) s₀)
 
 -- there are no more accounts than a file has lines
@@ -230,7 +230,7 @@ module _ (g : Given) (out : List ℕ) where
       pub written : (s₁ s₂ s₃ s₄ : List ℕ)
           → s₁ ≡ putField 1 (flat (listTexts (g .sender) (g .date) (g .number) (g .previous))) out
           → s₂ ≡ putField 52 (flat (claimTexts (accountsIn (g .accounts)) (g .creation) (g .version))) s₁
-          → s₃ ≡ putField 129 (flat (map (accountLine (g .sender)) (chop accountLength (accountsIn (g .accounts)) (g .accounts)))) s₂
+          → s₃ ≡ putField (headerLength + 1) (flat (map (accountLine (g .sender)) (chop accountLength (accountsIn (g .accounts)) (g .accounts)))) s₂
           → s₄ ≡ putField (headerLength + accountsIn (g .accounts) * lineLength + 1) foot s₃
           → WriteHgv g out (record { number = 0; length = fileLength (accountsIn (g .accounts)) }) s₄
       unfolding WriteHgv writeAnswer outAfter writtenWhole

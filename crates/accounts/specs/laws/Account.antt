@@ -117,7 +117,7 @@ module _ (a : List ℕ) (sized : length a ≡ accountLength) where
     line-filler = text-at 20 117 127 (omega arith) refl refl
 
     pub line-end : field lineLength lineLength line ≡ lineEnd
-    line-end = text-at 21 128 128 (omega arith) refl refl
+    line-end = text-at 21 lineLength lineLength (omega arith) refl refl
 
 -- ---- one account has this line
 

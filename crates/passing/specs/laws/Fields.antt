@@ -73,7 +73,7 @@ module _ (g : Given) (k : Kept g) where
   filler-is = text-at 9 101 127 (omega arith) (omega arith) (omega arith) (omega arith) refl refl
 
   pub end-is : field headerLength headerLength file ≡ lineEnd
-  end-is = text-at 10 128 128 (omega arith) (omega arith) (omega arith) (omega arith) refl refl
+  end-is = text-at 10 headerLength headerLength (omega arith) (omega arith) (omega arith) (omega arith) refl refl
 
   -- ---- the list sequence
 

@@ -39,6 +39,40 @@ previous-sized : (sender previous : List ℕ) → sequence sender previous || eq
 previous-sized sender previous h =
     either (length previous ≡ 19) (sequence sender previous) (eqs previous noList) h (sequence-length sender previous) (λ e. ap length (eqs-true previous noList e))
 
+pub record Sized (sender date previous creation : List ℕ) : Type 0 where
+  pub of-sender : length sender ≡ senderLength
+  pub of-date : length date ≡ 8
+  pub of-previous : length previous ≡ 19
+  pub of-creation : length creation ≡ timeLength
+
+-- what the header's fields then are
+pub record HeadKept (version : ℕ) (sender date : List ℕ) (number : ℕ) (previous creation : List ℕ) : Type 0 where
+  pub versioned : eqb version 120001 || eqb version 220001 ≡ true
+  pub six : run digit 6 sender ≡ true
+  pub dated : realDate date ≡ true
+  pub least : 1 ≤ number
+  pub most : number ≤ 99
+  pub preceded : sequence sender previous || eqs previous noList ≡ true
+  pub created : realTime creation ≡ true
+
+module _ (version : ℕ) (sender date : List ℕ) (number : ℕ) (previous creation : List ℕ) where
+  pub head-kept : headFieldsHold version sender date number previous creation ≡ true → HeadKept version sender date number previous creation
+  unfolding headFieldsHold joined
+  head-kept h = go (joined-each (eqb version 120001 || eqb version 220001) behind h)
+    where
+      behind : List Bool
+      behind = run digit 6 sender ∷ realDate date ∷ leb 1 number ∷ leb number 99 ∷ (sequence sender previous || eqs previous noList) ∷ realTime creation ∷ []
+
+      go : Each (λ b. b ≡ true) ((eqb version 120001 || eqb version 220001) ∷ behind) → HeadKept version sender date number previous creation
+      go (more a₁ (more a₂ (more a₃ (more a₄ (more a₅ (more a₆ (more a₇ none))))))) =
+          record { versioned = a₁; six = a₂; dated = a₃; least = leb-true 1 number a₄; most = leb-true number 99 a₅; preceded = a₆; created = a₇ }
+
+  -- how long they are
+  pub sized : headFieldsHold version sender date number previous creation ≡ true → Sized sender date previous creation
+  sized h =
+      let k : HeadKept version sender date number previous creation = head-kept h in
+      record { of-sender = run-length digit 6 sender (k .six); of-date = date-sized date (k .dated); of-previous = previous-sized sender previous (k .preceded); of-creation = real-length creation (k .created) }
+
 pub record Kept (g : Given) : Type 0 where
   pub versioned : eqb (g .version) 120001 || eqb (g .version) 220001 ≡ true
   pub six : run digit 6 (g .sender) ≡ true
@@ -64,28 +98,25 @@ module _ (g : Given) where
   faultlessAll = each (faultlessLine (g .rows) (g .sender)) (accountsOf (g .accounts))
 
   pub kept : givenHolds g ≡ true → Kept g
-  unfolding givenHolds headFieldsHold blocksHold faultlessLine joined
+  unfolding givenHolds blocksHold faultlessLine joined
   kept h =
       let s = and-split (names && blocks) faultlessAll h in
       let t = and-split names blocks (s .0) in
-      go (joined-each (eqb (g .version) 120001 || eqb (g .version) 220001) namesBehind (t .0)) (joined-each (rowsHold (g .rows)) blocksBehind (t .1)) (each-passes (faultlessLine (g .rows) (g .sender)) (accountsOf (g .accounts)) (s .1))
+      go (head-kept (g .version) (g .sender) (g .date) (g .number) (g .previous) (g .creation) (t .0)) (joined-each (rowsHold (g .rows)) behind (t .1)) (each-passes (faultlessLine (g .rows) (g .sender)) (accountsOf (g .accounts)) (s .1))
     where
-      namesBehind : List Bool
-      namesBehind = run digit 6 (g .sender) ∷ realDate (g .date) ∷ leb 1 (g .number) ∷ leb (g .number) 99 ∷ (sequence (g .sender) (g .previous) || eqs (g .previous) noList) ∷ realTime (g .creation) ∷ []
+      behind : List Bool
+      behind = known (g .rows) (g .sender) ∷ eqb (length (g .accounts) % accountLength) 0 ∷ leb (accountsIn (g .accounts)) linesMost ∷ []
 
-      blocksBehind : List Bool
-      blocksBehind = known (g .rows) (g .sender) ∷ eqb (length (g .accounts) % accountLength) 0 ∷ leb (accountsIn (g .accounts)) linesMost ∷ []
-
-      go : Each (λ b. b ≡ true) ((eqb (g .version) 120001 || eqb (g .version) 220001) ∷ namesBehind) → Each (λ b. b ≡ true) (rowsHold (g .rows) ∷ blocksBehind) → Each (λ a. faultlessLine (g .rows) (g .sender) a ≡ true) (accountsOf (g .accounts)) → Kept g
-      go (more a₁ (more a₂ (more a₃ (more a₄ (more a₅ (more a₆ (more a₇ none))))))) (more b₁ (more b₂ (more b₃ (more b₄ none)))) f =
+      go : HeadKept (g .version) (g .sender) (g .date) (g .number) (g .previous) (g .creation) → Each (λ b. b ≡ true) (rowsHold (g .rows) ∷ behind) → Each (λ a. faultlessLine (g .rows) (g .sender) a ≡ true) (accountsOf (g .accounts)) → Kept g
+      go k (more b₁ (more b₂ (more b₃ (more b₄ none)))) f =
           record {
-            versioned = a₁;
-            six = a₂;
-            dated = a₃;
-            least = leb-true 1 (g .number) a₄;
-            most = leb-true (g .number) 99 a₅;
-            preceded = a₆;
-            created = a₇;
+            versioned = k .versioned;
+            six = k .six;
+            dated = k .dated;
+            least = k .least;
+            most = k .most;
+            preceded = k .preceded;
+            created = k .created;
             rowed = b₁;
             sent = b₂;
             whole = omega (arith, div-add-mod' (length (g .accounts)) accountLength, eqb-true (length (g .accounts) % accountLength) 0 b₃);
@@ -111,23 +142,3 @@ module _ (g : Given) where
     pub each-account : Each (λ a. length a ≡ accountLength) (accountsOf (g .accounts))
     unfolding accountsOf
     each-account = each-chop accountLength (accountsIn (g .accounts)) (g .accounts) (omega (arith, k .whole))
-
--- ---- the same of the header's fields alone
-
-pub record Sized (sender date previous creation : List ℕ) : Type 0 where
-  pub of-sender : length sender ≡ senderLength
-  pub of-date : length date ≡ 8
-  pub of-previous : length previous ≡ 19
-  pub of-creation : length creation ≡ timeLength
-
-pub sized : (version : ℕ) (sender date : List ℕ) (number : ℕ) (previous creation : List ℕ) → headFieldsHold version sender date number previous creation ≡ true → Sized sender date previous creation
-unfolding headFieldsHold joined
-sized version sender date number previous creation h =
-    go (joined-each (eqb version 120001 || eqb version 220001) behind h)
-  where
-    behind : List Bool
-    behind = run digit 6 sender ∷ realDate date ∷ leb 1 number ∷ leb number 99 ∷ (sequence sender previous || eqs previous noList) ∷ realTime creation ∷ []
-
-    go : Each (λ b. b ≡ true) ((eqb version 120001 || eqb version 220001) ∷ behind) → Sized sender date previous creation
-    go (more a₁ (more a₂ (more a₃ (more a₄ (more a₅ (more a₆ (more a₇ none))))))) =
-        record { of-sender = run-length digit 6 sender a₂; of-date = date-sized date a₃; of-previous = previous-sized sender previous a₆; of-creation = real-length creation a₇ }
