@@ -1,4 +1,4 @@
--- Laws of the Luhn sum, in the form that its loop uses. Assumes nothing.
+-- The table's rule, and laws of the Luhn sum in the form that its loop uses. Assumes nothing.
 use mathlib.Core.Path.{_≡_, refl, _∙_}
 use mathlib.Core.Bool.{true}
 use mathlib.Core.List.{List}
@@ -14,8 +14,10 @@ use Rattle.theory.specs.Text.{byte}
 use Rattle.theory.specs.laws.Truth.{and-left, and-right}
 use Rattle.theory.specs.Every.{all}
 use Rattle.theory.specs.laws.Every.{all-at}
+use Rattle.theory.specs.laws.Table.{entry}
 use Rattle.fields.specs.Field.{digit}
 use Rattle.pans.specs.Pan.{doubled, addend, luhnSum}
+use Rattle.pans.specs.laws.Pan.{doubledTable}
 
 -- a digit's byte lies between '0' and '9'
 pub digits-at : (s : List ℕ) (i : ℕ) → all digit s ≡ true → i < length s → (byte "0" ≤ getD s i 0) × (getD s i 0 ≤ byte "9")
@@ -23,6 +25,11 @@ digits-at s i h l =
     let b : ℕ = getD s i 0 in
     let e : digit b ≡ true = all-at digit s i h l in
     (leb-true (byte "0") b (and-left (leb (byte "0") b) (leb b (byte "9")) e), leb-true b (byte "9") (and-right (leb (byte "0") b) (leb b (byte "9")) e))
+
+-- the rule of the table at each of its ten entries
+pub listed : (t : List ℕ) → t ≡ doubledTable → (d : ℕ) → d < 10 → getD t d 0 ≡ doubled d
+unfolding doubledTable
+listed t e d h = rw e (entry doubled 10 d h)
 
 pub doubled-small : (d : ℕ) → d < 10 → doubled d < 10
 unfolding doubled

@@ -1,1 +1,2 @@
+pub mod Pan
 pub mod Outcomes

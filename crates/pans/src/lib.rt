@@ -5,9 +5,13 @@ ghost use Prim.Native.Nat.{_<_, _%_};
 ghost use Rattle.theory.specs.Every.{all};
 ghost use Rattle.fields.specs.Field.{digit};
 ghost use Rattle.pans.specs.Pan.{doubled, addend, luhnSum};
+ghost use Rattle.pans.specs.laws.Pan.{doubledTable};
 ghost use Rattle.pans.specs.Promises.{IsPan, IsLuhn};
 
 const PAN_LENGTH: usize = 19;
+
+// What a digit from 0 to 9 counts where it is doubled, as a card manual lists it.
+const DOUBLED: [u64; 10] = [0, 2, 4, 6, 8, 1, 3, 5, 7, 9];
 
 pub fn is_pan(f: &[u8]) -> bool
     ensures { λ r. ⌜ IsPan (now (f .entry)) r ⌝ }
@@ -15,19 +19,19 @@ pub fn is_pan(f: &[u8]) -> bool
     (f.len() == PAN_LENGTH) & characters::is_filled(f, characters::digits_in(f))
 }
 
-fn doubled(d: u64) -> u64
-    requires { ⌜ d < 10 ⌝ }
+fn doubled(table: &[u64; 10], d: u64) -> u64
+    requires { ⌜ (now table ≡ doubledTable) × (d < 10) ⌝ }
     ensures { λ r. ⌜ r ≡ doubled d ⌝ }
 {
-    2 * d / 10 + 2 * d % 10
+    table[d as usize]
 }
 
-fn addend(d: u64, behind: usize) -> u64
-    requires { ⌜ d < 10 ⌝ }
+fn addend(table: &[u64; 10], d: u64, behind: usize) -> u64
+    requires { ⌜ (now table ≡ doubledTable) × (d < 10) ⌝ }
     ensures { λ r. ⌜ (r ≡ addend d behind) × (r < 10) ⌝ }
 {
     if behind % 2 == 1 {
-        return doubled(d);
+        return doubled(table, d);
     }
     d
 }
@@ -43,9 +47,10 @@ fn last_digit(sum: u64) -> u64
     sum - 10
 }
 
-// The Luhn sum, of which only the last digit is kept.
-fn luhn_sum(digits: &[u8]) -> u64
-    requires { ⌜ all digit (now digits) ≡ true ⌝ }
+// The Luhn sum, of which only the last digit is kept. The table is lent, since a constant that is read in a loop is made
+// anew in each turn.
+fn luhn_sum(table: &[u64; 10], digits: &[u8]) -> u64
+    requires { ⌜ (now table ≡ doubledTable) × (all digit (now digits) ≡ true) ⌝ }
     ensures { λ r. ⌜ r ≡ luhnSum (now (digits .entry)) % 10 ⌝ }
 {
     let n = digits.len();
@@ -53,7 +58,7 @@ fn luhn_sum(digits: &[u8]) -> u64
     let mut i: usize = 0;
     while i < n {
         let d = (digits[i] - b'0') as u64;
-        sum = last_digit(sum + addend(d, n - 1 - i));
+        sum = last_digit(sum + addend(table, d, n - 1 - i));
         i += 1;
     }
     sum
@@ -63,5 +68,5 @@ pub fn is_luhn(f: &[u8]) -> bool
     ensures { λ r. ⌜ IsLuhn (now (f .entry)) r ⌝ }
 {
     let k = characters::digits_in(f);
-    luhn_sum(&f[..k]) == 0
+    luhn_sum(&DOUBLED, &f[..k]) == 0
 }

@@ -8,22 +8,22 @@ use Rattle.pans.proofs.luhn_sum.Statement.{statement}
 use Rattle.pans.proofs.luhn_sum.Tie as tie
 
 abbrev Inv-loop : tie.InvT-loop
-Inv-loop digits n sum₀ i₀ sum i = Summing digits sum i
+Inv-loop table digits n sum₀ i₀ sum i = Summing digits sum i
 
 abbrev μ-loop : tie.MeasureT-loop
-μ-loop digits n sum₀ i₀ sum i = n - i
+μ-loop table digits n sum₀ i₀ sum i = n - i
 
 loop-holds : tie.Need-loop-holds Inv-loop μ-loop
 loop-holds c = sum-start _
 
 sub-d : tie.Need-sub-d Inv-loop μ-loop
-sub-d c = (digits-at (c .before .before .before .before .args .digits .now) (c .before .before .loop .i) (c .before .before .before .before .pre) (omega arith)) .0
+sub-d c = (digits-at (c .before .before .before .before .args .digits .now) (c .before .before .loop .i) (c .before .before .before .before .pre .1) (omega arith)) .0
 
 cast-d : tie.Need-cast-d Inv-loop μ-loop
-cast-d c = omega (arith, (digits-at (c .before .before .before .before .args .digits .now) (c .before .before .loop .i) (c .before .before .before .before .pre) (omega arith)) .1)
+cast-d c = omega (arith, (digits-at (c .before .before .before .before .args .digits .now) (c .before .before .loop .i) (c .before .before .before .before .pre .1) (omega arith)) .1)
 
 addend-requires : tie.Need-addend-requires Inv-loop μ-loop
-addend-requires c κs = omega (arith, (digits-at (c .before .before .before .before .args .digits .now) (c .before .before .loop .i) (c .before .before .before .before .pre) (omega arith)) .1)
+addend-requires c κs = (c .before .before .before .before .pre .0, omega (arith, (digits-at (c .before .before .before .before .args .digits .now) (c .before .before .loop .i) (c .before .before .before .before .pre .1) (omega arith)) .1))
 
 add-last-digit : tie.Need-add-last-digit Inv-loop μ-loop
 add-last-digit c = omega (arith, c .before .before .before .loop .inv .last, c .addend .ensures .1)
