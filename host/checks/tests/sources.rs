@@ -8,6 +8,8 @@ mod believed;
 mod declarations;
 #[path = "sources/edits.rs"]
 mod edits;
+#[path = "sources/luhn.rs"]
+mod luhn;
 #[path = "sources/mistakes.rs"]
 mod mistakes;
 #[path = "sources/mutations.rs"]
