@@ -2,7 +2,6 @@
 use borrow.Author.Needs.{needs}
 use mathlib.Core.Path.{sym, _∙_}
 use native.Mathlib.Omega.{arith}
-use Rattle.pans.specs.Pan.{doubled}
 use Rattle.pans.proofs.Laws.{doubled-small, addend-doubled, addend-plain}
 use Rattle.pans.proofs.addend.Statement.{statement}
 use Rattle.pans.proofs.addend.Tie as tie

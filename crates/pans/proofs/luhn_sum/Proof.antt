@@ -2,7 +2,6 @@
 use borrow.Author.Needs.{needs}
 use native.Mathlib.Omega.{arith}
 use Prim.Native.Nat.{_-_}
-use Rattle.pans.specs.Pan.{addend}
 use Rattle.pans.proofs.Laws.{digits-at, Summing, sum-start, sum-turn, sum-end}
 use Rattle.pans.proofs.luhn_sum.Statement.{statement}
 use Rattle.pans.proofs.luhn_sum.Tie as tie
@@ -17,13 +16,13 @@ loop-holds : tie.Need-loop-holds Inv-loop μ-loop
 loop-holds c = sum-start _
 
 sub-d : tie.Need-sub-d Inv-loop μ-loop
-sub-d c = (digits-at (c .before .before .before .before .args .digits .now) (c .before .before .loop .i) (c .before .before .before .before .pre .1) (omega arith)) .0
+sub-d c = (digits-at _ _ (c .before .before .before .before .pre .1) (c .before .loop-test .taken)) .0
 
 cast-d : tie.Need-cast-d Inv-loop μ-loop
-cast-d c = omega (arith, (digits-at (c .before .before .before .before .args .digits .now) (c .before .before .loop .i) (c .before .before .before .before .pre .1) (omega arith)) .1)
+cast-d c = omega (arith, (digits-at _ _ (c .before .before .before .before .pre .1) (c .before .loop-test .taken)) .1)
 
 addend-requires : tie.Need-addend-requires Inv-loop μ-loop
-addend-requires c κs = (c .before .before .before .before .pre .0, omega (arith, (digits-at (c .before .before .before .before .args .digits .now) (c .before .before .loop .i) (c .before .before .before .before .pre .1) (omega arith)) .1))
+addend-requires c κs = (c .before .before .before .before .pre .0, omega (arith, (digits-at _ _ (c .before .before .before .before .pre .1) (c .before .loop-test .taken)) .1))
 
 add-last-digit : tie.Need-add-last-digit Inv-loop μ-loop
 add-last-digit c = omega (arith, c .before .before .before .loop .inv .last, c .addend .ensures .1)
