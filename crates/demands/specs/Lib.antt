@@ -1,7 +1,9 @@
 pub mod Own
 pub mod History
 pub mod Verdicts
+pub mod Weighed
 pub mod Demand1
 pub mod Demand2
 pub mod Demand3
+pub mod Weights
 pub mod laws

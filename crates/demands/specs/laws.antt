@@ -1,10 +1,12 @@
 pub mod Reasons
+pub mod Sound
 pub mod ReadBack
 pub mod Read
 pub mod Own
 pub mod Mirror
 pub mod Imports
 pub mod Answered
+pub mod Weighed
 pub mod Replays
 pub mod Judging
 pub mod Exact

@@ -12,7 +12,8 @@ use Rattle.pans.specs.Pan.{pan, luhn}
 use Rattle.plates.specs.Plate.{plate, nationality}
 use Rattle.issuers.specs.Rows.{someRowBegins, someRowFits}
 use Rattle.columns.specs.Columns.{actor, panOf, plateOf, nationalityOf, contextMark, obeId}
-use Rattle.vehicles.specs.Vehicle.{vehicleHolds, weightHolds}
+use Rattle.vehicles.specs.Vehicle.{vehicleHolds}
+use Rattle.weights.specs.Weights.{weightHolds}
 
 -- PAN: 1-19 digits then blanks
 unfoldable pub L1 : List ℕ → Bool
@@ -53,15 +54,15 @@ L8 l = run hex 12 (contextMark l)
 unfoldable pub L9 : List ℕ → Bool
 L9 l = run hex 18 (obeId l)
 
--- what the line says of the vehicle, field by field, and the weight's limit
+-- what the line says of the vehicle, field by field, and the limits of weight
 unfoldable pub L10 : List ℕ → Bool
 L10 l = vehicleHolds l && weightHolds l
 
 -- ---- a line, and a record
 
--- L1 to L10 in their order, each with its reason
-unfoldable pub lineRules : List ℕ → List ℕ → List ℕ → List Rule
-lineRules rows sender l =
+-- L1 to L10 in their order, each with its reason; whether L10 holds is given
+unfoldable pub rulesBy : Bool → List ℕ → List ℕ → List ℕ → List Rule
+rulesBy l10 rows sender l =
     (3 if not (L1 l))
     ∷ (4 if not (L2 sender l))
     ∷ (4 if not (L3 rows sender l))
@@ -72,13 +73,16 @@ lineRules rows sender l =
     ∷ (9 if not (L7 l))
     ∷ (8 if not (L8 l))
     ∷ (5 if not (L9 l))
-    ∷ (12 if not (L10 l))
+    ∷ (12 if not l10)
     ∷ []
+
+unfoldable pub lineRules : List ℕ → List ℕ → List ℕ → List Rule
+lineRules rows sender l = rulesBy (L10 l) rows sender l
 
 -- the reason of the first that fits, 0 where none does
 unfoldable pub lineFault : List ℕ → List ℕ → List ℕ → ℕ
 lineFault rows sender l = first (lineRules rows sender l)
 
--- six-digit actor, and L1, L5 to L10 hold, L10 by its two parts
+-- six-digit actor, and L1, L5 to L10 hold, but for the limits of weight: what is stored is not judged by them
 unfoldable pub recordHolds : List ℕ → Bool
-recordHolds l = run digit 6 (actor l) && L1 l && L5 l && L6 l && L7 l && L8 l && L9 l && vehicleHolds l && weightHolds l
+recordHolds l = run digit 6 (actor l) && L1 l && L5 l && L6 l && L7 l && L8 l && L9 l && vehicleHolds l

@@ -37,7 +37,7 @@ fn holds_l9(l: &[u8]) -> bool
 fn holds_l10(l: &[u8]) -> bool
     ensures { λ r. ⌜ r ≡ L10 (now (l .entry)) ⌝ }
 {
-    vehicles::holds_vehicle(l) & vehicles::holds_weight(l)
+    vehicles::holds_vehicle(l) & weights::holds_weight(l)
 }
 
 fn holds_l1(l: &[u8]) -> bool
@@ -95,7 +95,7 @@ pub fn line_fault(l: &[u8], sender: &[u8], rows: &[u8]) -> u64
     rules::first(!holds_l1(l), 3, v2)
 }
 
-// Six-digit actor, and L1, L5 to L10 hold, L10 by its two parts.
+// Six-digit actor, and L1, L5 to L10 hold, but for the limits of weight: a record is not judged by them.
 pub fn is_record(l: &[u8]) -> bool
     ensures { λ r. ⌜ IsRecord (now (l .entry)) r ⌝ }
 {
@@ -107,5 +107,4 @@ pub fn is_record(l: &[u8]) -> bool
         & holds_l8(l)
         & holds_l9(l)
         & vehicles::holds_vehicle(l)
-        & vehicles::holds_weight(l)
 }

@@ -1,9 +1,9 @@
--- The two parts of L10: what a line says of the vehicle, its end and its separators, field by field; and the weight's limit.
--- A rule's name stands for "it holds". Assumes nothing.
+-- What L10 asks of a line's fields: what it says of the vehicle, its end and its separators, field by field. A rule's name stands
+-- for "it holds". Assumes nothing.
 use Prim.Native.Nat.{ℕ}
-use mathlib.Core.Bool.{Bool, not, _&&_, _||_}
+use mathlib.Core.Bool.{Bool, _&&_, _||_}
 use mathlib.Core.List.{List}
-use lib.Dec.{eqb, leb, ltb}
+use lib.Dec.{eqb, leb}
 use Rattle.theory.specs.Text.{bytes}
 use Rattle.theory.specs.Every.{run}
 use Rattle.sizes.specs.Sizes.{timeLength}
@@ -51,7 +51,3 @@ fieldsHold l =
 -- what L10 asks of the fields, a weight of four digits among them
 unfoldable pub vehicleHolds : List ℕ → Bool
 vehicleHolds l = emissionHolds l && fieldsHold l
-
--- the limit that L10 sets a weight by its tariff: with 12 or 22 at most 0350, in 10 kg; 0000 is missing and meets it
-unfoldable pub weightHolds : List ℕ → Bool
-weightHolds l = not (listed 2 (bytes "1222") (tariff l) && ltb 350 (number (weight l)))

@@ -1,13 +1,11 @@
-// The two parts of L10: what a line says of the vehicle, its end and its separators; and the weight's limit.
+// What L10 asks of a line's fields: what it says of the vehicle, its end and its separators. A weight is four digits here; its
+// limits stand in `weights`.
 ghost use mathlib.Core.Path.{_≡_};
 ghost use mathlib.Core.Bool.{_||_};
 ghost use Rattle.theory.specs.Every.{run};
 ghost use Rattle.fields.specs.Field.{digit, blank};
 ghost use Rattle.vehicles.specs.Vehicle.{tariffHolds, classHolds, emissionHolds, productHolds, engineHolds, validToHolds, separatorHolds, fieldsHold};
-ghost use Rattle.vehicles.specs.Promises.{HoldsVehicle, HoldsWeight};
-
-// The highest code that a light vehicle's weight may have, in 10 kg.
-const LIGHT_MOST: u64 = 350;
+ghost use Rattle.vehicles.specs.Promises.{HoldsVehicle};
 
 fn has_tariff(l: &[u8]) -> bool
     ensures { λ r. ⌜ r ≡ tariffHolds (now (l .entry)) ⌝ }
@@ -111,12 +109,4 @@ pub fn holds_vehicle(l: &[u8]) -> bool
     ensures { λ r. ⌜ HoldsVehicle (now (l .entry)) r ⌝ }
 {
     has_emission(l) & has_fields(l)
-}
-
-pub fn holds_weight(l: &[u8]) -> bool
-    ensures { λ r. ⌜ HoldsWeight (now (l .entry)) r ⌝ }
-{
-    let tariff = texts::field(l, columns::TARIFF_FROM, columns::TARIFF_TO);
-    let weight = numbers::number(texts::field(l, columns::WEIGHT_FROM, columns::WEIGHT_TO));
-    !(texts::listed(tariff, 2, b"1222") & (LIGHT_MOST < weight))
 }

@@ -7,7 +7,7 @@ use Rattle.theory.specs.First.{choose, first}
 use Rattle.theory.specs.laws.First.{otherwise-stands, otherwise-next, numberedTo, first-most}
 use Rattle.theory.specs.Walk.{some}
 use Rattle.columns.specs.Columns.{panOf}
-use Rattle.lines.specs.Rules.{lineRules, lineFault}
+use Rattle.lines.specs.Rules.{rulesBy, lineRules, lineFault}
 use Rattle.slots.specs.Search.{holdsPan, heldByAnother}
 use Rattle.verdicts.specs.Verdict.{ownRules, verdict}
 use Rattle.verdicts.specs.laws.Verdict.{own-is, verdict-is}
@@ -15,7 +15,7 @@ use Rattle.verdicts.specs.laws.Verdict.{own-is, verdict-is}
 -- ---- a rule behind others, as the code asks it
 
 pub fault-most : (rows from l : List ℕ) (f : ℕ) → f ≡ lineFault rows from l → f ≤ 12
-unfolding lineFault lineRules numberedTo
+unfolding lineFault lineRules rulesBy numberedTo
 fault-most rows from l f e = rw e (first-most 12 (lineRules rows from l) refl)
 
 module _ (rows from : List ℕ) (R : List (List ℕ)) (l : List ℕ) where

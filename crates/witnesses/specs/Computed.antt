@@ -26,10 +26,11 @@ use Rattle.pans.specs.Pan.{pan, doubled, addend, luhnSum, luhn}
 use Rattle.plates.specs.Plate.{allowed, plate, nationality, separated, separator}
 use Rattle.issuers.specs.Rows.{rowHolds, rowsHold, sentBy, rowBegins, rowFits, known, someRowBegins, someRowFits}
 use Rattle.times.specs.Time.{daysIn, realTime, realDate}
-use Rattle.vehicles.specs.Vehicle.{tariffHolds, classHolds, emissionHolds, productHolds, engineHolds, validToHolds, separatorHolds, fieldsHold, weightHolds, vehicleHolds}
+use Rattle.vehicles.specs.Vehicle.{tariffHolds, classHolds, emissionHolds, productHolds, engineHolds, validToHolds, separatorHolds, fieldsHold, vehicleHolds}
+use Rattle.weights.specs.Weights.{limits, meets, meetsEach, missing, allows, weightHolds}
 use Rattle.times.specs.Order.{earlier}
 use Rattle.lines.specs.End.{endOf, recordOf}
-use Rattle.lines.specs.Rules.{L1, L2, L3, L4, L5, L6, L7, nationalityBlank, L8, L9, lineRules, recordHolds, L10}
+use Rattle.lines.specs.Rules.{L1, L2, L3, L4, L5, L6, L7, nationalityBlank, L8, L9, rulesBy, lineRules, recordHolds, L10}
 use Rattle.lines.specs.laws.Starred.{starred}
 use Rattle.slots.specs.Slots.{slotsOf, marked, records, usedPart}
 use Rattle.register.specs.Register.{usedForm, freeForm, inOrder}
@@ -202,5 +203,5 @@ pub record Late : Type 0 where
 -- ---- computed, by every definition that the contracts reach
 
 pub computed : Single × (Six × Late)
-unfolding takenNext earlier bump distinct all run leading choose first flat onto free pad frontOn front chop good bad pick eqs mem scan tally each some field listed filledTo filled numberAfter number decimal pan doubled addend luhnSum luhn allowed plate nationality separated separator rowHolds rowsHold sentBy rowBegins rowFits known someRowBegins someRowFits daysIn realTime realDate tariffHolds classHolds emissionHolds productHolds engineHolds validToHolds separatorHolds fieldsHold vehicleHolds weightHolds L10 endOf recordOf L1 L2 L3 L4 L5 L6 L7 nationalityBlank L8 L9 lineRules recordHolds starred slotsOf marked usedForm freeForm records usedPart inOrder holdsPan placeOf ofActor holdsForeign heldByAnother countOf widthOf linesIn lengthHolds body linesOf footer footerForm footerHolds framed framesHold sequence previousHolds headerHolds versionHolds incrementalOnly receiverHolds countHolds zeros outcome head answer said answers foot confirmation ownRules verdictRules verdict verdictsOf fileVerdicts taken rejected storedOn stored storedAll others replacedAll isFull holdings usedAfter modeHolds fullWith220001 addressed callStops fileStops formStops formStop judged following confirmed roomStops stops importNumber unlessStopped refusal success registerAfter hgcAfter registerWritten hgcWritten importAnswer empty sift isTaken marksFrom marks left answersIn behindHead answersOf lengthForm headForm answerForm formHolds namesHold outcomeHolds reasonHolds textsOf copiesOf marksOf takenBy sameTexts copiesHold countsHold lineHolds takenHold saysHold linesHold receiptHolds stopCounts successCounts ownHolds copyStops copyFollowing receiptStops updateNumber updateAnswer copyWritten copyAfter count copyBy answersBy
+unfolding takenNext earlier bump distinct all run leading choose first flat onto free pad frontOn front chop good bad pick eqs mem scan tally each some field listed filledTo filled numberAfter number decimal pan doubled addend luhnSum luhn allowed plate nationality separated separator rowHolds rowsHold sentBy rowBegins rowFits known someRowBegins someRowFits daysIn realTime realDate tariffHolds classHolds emissionHolds productHolds engineHolds validToHolds separatorHolds fieldsHold vehicleHolds limits meets meetsEach missing allows weightHolds L10 endOf recordOf L1 L2 L3 L4 L5 L6 L7 nationalityBlank L8 L9 rulesBy lineRules recordHolds starred slotsOf marked usedForm freeForm records usedPart inOrder holdsPan placeOf ofActor holdsForeign heldByAnother countOf widthOf linesIn lengthHolds body linesOf footer footerForm footerHolds framed framesHold sequence previousHolds headerHolds versionHolds incrementalOnly receiverHolds countHolds zeros outcome head answer said answers foot confirmation ownRules verdictRules verdict verdictsOf fileVerdicts taken rejected storedOn stored storedAll others replacedAll isFull holdings usedAfter modeHolds fullWith220001 addressed callStops fileStops formStops formStop judged following confirmed roomStops stops importNumber unlessStopped refusal success registerAfter hgcAfter registerWritten hgcWritten importAnswer empty sift isTaken marksFrom marks left answersIn behindHead answersOf lengthForm headForm answerForm formHolds namesHold outcomeHolds reasonHolds textsOf copiesOf marksOf takenBy sameTexts copiesHold countsHold lineHolds takenHold saysHold linesHold receiptHolds stopCounts successCounts ownHolds copyStops copyFollowing receiptStops updateNumber updateAnswer copyWritten copyAfter count copyBy answersBy
 computed = (record { good-answer = refl; good-register = refl; empty-answer = refl; empty-hgc = refl; bad-answer = refl; bad-hgc = refl; different = refl; first-register = refl; both-register = refl; both-different = refl; ended-register = refl; ended-hgc = refl }, (record { answer₁ = refl; after₁ = refl; hgc-is₁ = refl; answer₂ = refl; after₂ = refl; hgc-is₂ = refl; answer₃ = refl; after₃ = refl; answer₄ = refl; after₄ = refl; hgc-is₄ = refl; answer₅ = refl; after₅ = refl; hgc-is₅ = refl; answer₆ = refl; after₆ = refl }, record { copy-is = refl; answers-are = refl; their-copy = refl; their-answers = refl }))

@@ -33,7 +33,9 @@ use Rattle.importer.specs.Promises.{Import}
 use Rattle.importer.specs.laws.Follows.{adds-up, holds-following, others-same, places-same}
 use Rattle.provider.specs.declared.Counted.{Counted}
 use Rattle.reading.specs.Promises.{ReadBack}
-use Rattle.demands.specs.laws.Read.{sentBack, sameCounts, read-answer, read-verdicts}
+use Rattle.weights.specs.Weights.{weightHolds}
+use Rattle.demands.specs.Weighed.{ownCounts}
+use Rattle.demands.specs.laws.Weighed.{judged-today, accepted-today, read-under}
 use Rattle.importer.specs.Handed.{Handed}
 use Rattle.demands.specs.laws.Imports.{number-0, done-is, register-is, hgc-is}
 use Rattle.demands.specs.Verdicts.{Verdicts}
@@ -116,8 +118,7 @@ module _ (f : Handed) (register : List ℕ) (r : Imported) (b g : List ℕ) (o :
 
     module _ (block : List ℕ) (u : Counted) (w : List ℕ) (p : ReadBack (f .hgv) (take (r .length) g) block u w) where
       pub read-is : linesIn (f .hgv) ≤ length block → (u ≡ record { number = 0; taken = r .taken; rejected = r .rejected }) × (w ≡ vs ++ drop (linesIn (f .hgv)) block)
-      unfolding Import ReadBack sentBack sameCounts
-      read-is m = (
-        rw (p .0, o .1 .1, o .0) (read-answer f register e block m),
-        rw (p .1, o .1 .1, o .0, ← judged-is) (read-verdicts f register e block m),
-      )
+      unfolding ownCounts
+      read-is m =
+          rw (taken-is, rejected-is, ← judged-is, ← judged-today f register)
+          (read-under weightHolds f register b (take (r .length) g) (accepted-today f register r b g o z) block u w p m)

@@ -16,48 +16,57 @@ use Rattle.header.specs.Header.{sender}
 use Rattle.slots.specs.Slots.{slotsIn, records}
 use Rattle.slots.specs.Search.{ofActor}
 use Rattle.verdicts.specs.Verdict.{taken}
-use Rattle.holdings.specs.Holdings.{holdings}
+use Rattle.holdings.specs.Holdings.{others, holdings}
 use Rattle.upkeep.specs.Holds.{Holds}
 use Rattle.applying.specs.Fit.{Fit}
 use Rattle.applying.specs.laws.Follows.{follows}
 use Rattle.importer.specs.Handed.{Handed}
-use Rattle.importer.specs.Import.{judged, following, importNumber, registerAfter}
-use Rattle.importer.specs.laws.Accepted.{lines-his}
-use Rattle.importer.specs.laws.Numbers.{Formed, accepted-clear, done-register}
-use Rattle.importer.specs.laws.Follows.{fit, holds-following, others-same}
 use Rattle.updating.specs.Sent.{Sent, sent}
 use Rattle.updating.specs.Update.{ownHolds, copyStops, copyFollowing, receiptStops, updateNumber, updateAnswer, copyWritten, copyAfter}
-use Rattle.demands.specs.laws.ReadBack.{reception-read, taken-are, hgc-cut}
-use Rattle.demands.specs.laws.Read.{sentBack, sameCounts, addressed-receiver, receipt-holds, counts-same}
 use Rattle.demands.specs.Own.{own}
 use Rattle.demands.specs.laws.Own.{own-holdings, fit-own, own-others}
+use Rattle.importer.specs.laws.Numbers.{Formed}
+use Rattle.hgc.specs.Confirmation.{confirmation}
+use Rattle.theory.specs.Join.{flat}
+use Rattle.theory.specs.Pad.{pad}
+use Rattle.sizes.specs.Sizes.{slotLength}
+use Rattle.applying.specs.laws.Others.{others-stay}
+use Rattle.demands.specs.Weighed.{followingBy, ownCounts}
+use Rattle.demands.specs.laws.Sound.{Sound, fit}
+use Rattle.demands.specs.laws.ReadBack.{reception-read, taken-are, receipt}
+use Rattle.demands.specs.laws.Read.{addressed-receiver, counts-same}
 
 -- his copy: in order, of as many slots as the register, and it holds his records, in our order, byte for byte
 abbrev pub Mirrors : List ℕ → List ℕ → List ℕ → Type 0
 Mirrors who register copy = Holds (slotsIn register) (own who (records register)) copy
 
-module _ (f : Handed) (register : List ℕ) (e : importNumber f register ≡ 0) where
+module _ (f : Handed) (register vs : List ℕ) (s : Sound f register vs) where
   -- the register after it
   abbrev after : List ℕ
-  after = registerAfter f register
+  after = flat (pad slotLength (slotsIn register) (followingBy vs f register))
 
   -- is in order, and holds the records that follow
-  pub after-holds : Holds (slotsIn register) (following f register) after
-  after-holds = rw (← done-register f register e) (holds-following f register e)
+  pub after-holds : Holds (slotsIn register) (followingBy vs f register) after
+  unfolding followingBy
+  after-holds = follows (f .mode) (sender (f .hgv)) (recordOf (f .reception)) register (taken vs (f .hgv)) (s .formed .ordered) (fit f register vs s)
+
+  others-same : others (sender (f .hgv)) (followingBy vs f register) ≡ others (sender (f .hgv)) (records register)
+  unfolding followingBy
+  others-same = others-stay (f .mode) (sender (f .hgv)) (recordOf (f .reception)) (slotsIn register) (records register) (taken vs (f .hgv)) (fit f register vs s) (s .his)
 
   -- ---- another's copy
 
   -- it mirrors the register as it did
   pub another-mirrors : (who copy : List ℕ) → eqs (sender (f .hgv)) who ≡ false → Mirrors who register copy → Mirrors who after copy
   another-mirrors who copy d m =
-      rw (after-holds .many, after-holds .held, ← own-others who (sender (f .hgv)) (following f register) d, others-same f register e, own-others who (sender (f .hgv)) (records register) d) m
+      rw (after-holds .many, after-holds .held, ← own-others who (sender (f .hgv)) (followingBy vs f register) d, others-same, own-others who (sender (f .hgv)) (records register) d) m
 
   -- ---- his own is updated
 
   module _ (copy : List ℕ) (m : Mirrors (sender (f .hgv)) register copy) where
     -- the HGC that he gets
     abbrev g : List ℕ
-    g = sentBack f register
+    g = confirmation (f .reception) (f .hgv) vs
 
     -- what he was sent
     abbrev entry : Sent
@@ -65,11 +74,11 @@ module _ (f : Handed) (register : List ℕ) (e : importNumber f register ≡ 0) 
 
     -- no stop from 21 to 32 was given
     c : Formed f register
-    c = accepted-clear f register e
+    c = s .formed
 
     -- the taken lines
     abbrev ls : List (List ℕ)
-    ls = taken (judged register (f .rows) (f .hgv)) (f .hgv)
+    ls = taken vs (f .hgv)
 
     -- 51 is not given
     his-own : ownHolds copy (f .hgv) ≡ true
@@ -78,27 +87,22 @@ module _ (f : Handed) (register : List ℕ) (e : importNumber f register ≡ 0) 
 
     -- the records that follow in the copy, by the HGC's reception and the lines read off as taken
     copied-is : copyFollowing entry copy ≡ holdings (f .mode) (sender (f .hgv)) (recordOf (f .reception)) (records copy) ls
-    unfolding copyFollowing sentBack
-    copied-is =
-        rw (
-          hgc-cut f register e,
-          reception-read f register e,
-          taken-are f register e,
-        )
+    unfolding copyFollowing
+    copied-is = rw (reception-read f register vs s, taken-are f register vs s)
 
     -- are his of those that follow in the register
-    copied-own : copyFollowing entry copy ≡ own (sender (f .hgv)) (following f register)
-    unfolding following
+    copied-own : copyFollowing entry copy ≡ own (sender (f .hgv)) (followingBy vs f register)
+    unfolding followingBy
     copied-own =
         copied-is
         ∙ rw (m .held)
-        (sym (own-holdings (f .mode) (sender (f .hgv)) (recordOf (f .reception)) (slotsIn register) (records register) ls (fit f register e) (lines-his f register c)))
+        (sym (own-holdings (f .mode) (sender (f .hgv)) (recordOf (f .reception)) (slotsIn register) (records register) ls (fit f register vs s) (s .his)))
 
     -- the taken lines fit the copy
     fit-copy : Fit (f .mode) (sender (f .hgv)) (recordOf (f .reception)) (slotsIn copy) (records copy) ls
     fit-copy =
         rw (m .many, m .held)
-        (fit-own (f .mode) (sender (f .hgv)) (recordOf (f .reception)) (slotsIn register) (records register) ls (fit f register e) (lines-his f register c))
+        (fit-own (f .mode) (sender (f .hgv)) (recordOf (f .reception)) (slotsIn register) (records register) ls (fit f register vs s) (s .his))
 
     -- so 33 is not given
     room : length (copyFollowing entry copy) ≤ slotsIn copy
@@ -127,14 +131,14 @@ module _ (f : Handed) (register : List ℕ) (e : importNumber f register ≡ 0) 
           c .counted,
           c .footed,
           c .framed,
-          receipt-holds f register e,
+          receipt f register vs s,
           le-ltb (slotsIn copy) (length (copyFollowing entry copy)) room,
         )
 
     -- 0, and the import's own counts
-    pub update-answer : updateAnswer entry copy ≡ sameCounts f register
+    pub update-answer : updateAnswer entry copy ≡ ownCounts vs
     unfolding updateAnswer
-    update-answer = at-success (updateNumber entry copy) _ _ update-number ∙ counts-same f register e
+    update-answer = at-success (updateNumber entry copy) _ _ update-number ∙ counts-same f register vs s
 
     -- his copy mirrors the register again
     pub update-mirrors : Mirrors (sender (f .hgv)) after (copyAfter entry copy)

@@ -28,12 +28,15 @@ use Rattle.provider.specs.declared.Counted.{Counted}
 use Rattle.updating.specs.Sent.{sent}
 use Rattle.updating.specs.Promises.{Update}
 use Rattle.updating.specs.laws.Outcomes.{update-one}
-use Rattle.demands.specs.laws.Read.{sentBack, sameCounts}
 use Rattle.demands.specs.Own.{own}
 use Rattle.demands.specs.laws.Mirror.{Mirrors, after-holds, another-mirrors, update-answer, update-mirrors}
 use Rattle.importer.specs.Handed.{Handed}
-use Rattle.demands.specs.History.{Entry, apply, Event, acceptance, concerns, his, entries, answers, empty, Ours, start, accepted, refused, Replay, applied}
-use Rattle.demands.specs.laws.Imports.{number-0, refused-register}
+use Rattle.demands.specs.History.{Entry, apply, Event, concerns, his, entries, answers, empty, Ours, start, accepted, refused, Replay, applied}
+use Rattle.demands.specs.Weighed.{judgedUnder, AcceptedUnder, ownCounts, acceptanceBy, OursUnder, start, accepted}
+use Rattle.demands.specs.laws.Imports.{refused-register}
+use Rattle.demands.specs.laws.Sound.{Sound}
+use Rattle.demands.specs.laws.Weighed.{accepted-sound, accepted-today, told-today}
+use Rattle.weights.specs.Weights.{weightHolds}
 
 -- ---- at the start
 
@@ -57,31 +60,31 @@ start-holds n m =
     rw (← empty-is n)
     (record { order = order-pad n none (omega arith) none refl m; held = records-pad n none (omega arith) none; bytes = refl; many = slots-pad n none (omega arith) })
 
--- ---- one import
+-- ---- one import, under any limits of weight
 
-module _ (f : Handed) (register : List ℕ) (r : Imported) (b g : List ℕ) (o : Import f register r b g) (z : r .number ≡ 0) where
+module _ (limit : List ℕ → Bool) (f : Handed) (register b g : List ℕ) (a : AcceptedUnder limit f register b g) where
+  abbrev vs : List ℕ
+  vs = judgedUnder limit f register
+
+  s : Sound f register vs
+  s = accepted-sound limit f register b g a
+
   -- the register after it is in order, of as many slots
-  pub after-order : inOrder b ≡ true
-  unfolding Import
-  after-order = rw (o .1 .0) (after-holds f register (number-0 f register r b g o z) .order)
+  after-order : inOrder b ≡ true
+  after-order = rw (a .left) (after-holds f register vs s .order)
 
-  pub after-many : slotsIn b ≡ slotsIn register
-  unfolding Import
-  after-many = rw (o .1 .0) (after-holds f register (number-0 f register r b g o z) .many)
+  after-many : slotsIn b ≡ slotsIn register
+  after-many = rw (a .left) (after-holds f register vs s .many)
 
   -- the copy of another mirrors it as it was
-  pub another-step : (who copy : List ℕ) → eqs (sender (f .hgv)) who ≡ false → Mirrors who register copy → Mirrors who b copy
-  unfolding Import
-  another-step who copy d m = rw (o .1 .0) (another-mirrors f register (number-0 f register r b g o z) who copy d m)
+  another-step : (who copy : List ℕ) → eqs (sender (f .hgv)) who ≡ false → Mirrors who register copy → Mirrors who b copy
+  another-step who copy d m = rw (a .left) (another-mirrors f register vs s who copy d m)
 
   -- the sender's, updated by what was sent back, mirrors it again, and the update answered the import's own counts
-  pub applied-step : (copy : List ℕ) → Mirrors (sender (f .hgv)) register copy → (u : Counted) (c : List ℕ) → Update (sent (f .mode) (f .hgv) (take (r .length) g)) copy u c
-      → Mirrors (sender (f .hgv)) b c × (u ≡ acceptance f r g .counted)
-  unfolding Import Update sentBack sameCounts acceptance
-  applied-step copy m u c (a, s) =
-      let e = number-0 f register r b g o z in
-      rw (o .1 .0, a, s, o .1 .1, o .0)
-      (update-mirrors f register e copy m, update-answer f register e copy m)
+  pub applied-step : (copy : List ℕ) → Mirrors (sender (f .hgv)) register copy → (u : Counted) (c : List ℕ) → Update (sent (f .mode) (f .hgv) g) copy u c
+      → Mirrors (sender (f .hgv)) b c × (u ≡ ownCounts vs)
+  unfolding Update
+  applied-step copy m u c (x, y) = rw (a .left, x, y, a .sent-back) (update-mirrors f register vs s copy m, update-answer f register vs s copy m)
 
 -- ---- every sequence
 
@@ -102,39 +105,46 @@ start-stands n who m =
     let s : Holds n [] (empty n) = start-holds n m in
     record { order = s .order; many = s .many; replayed = λ copy us p. rw (s .held) (none-replayed m p) }
 
-module _ {n : ℕ} {who register : List ℕ} {es : List Event} (s : Stands n who register es) (f : Handed) (r : Imported) (b g : List ℕ) (o : Import f register r b g) where
+module _ {n : ℕ} {who register : List ℕ} {es : List Event} (s : Stands n who register es) (limit : List ℕ → Bool) (f : Handed) (b g : List ℕ) (a : AcceptedUnder limit f register b g) where
   -- an accepted file, his or another's
-  module _ (z : r .number ≡ 0) where
-    accepted-replayed : (t : Bool) → eqs (sender (f .hgv)) who ≡ t → (copy : List ℕ) (us : List Counted)
-        → Replay n (entries (onto t (acceptance f r g) (his who es))) copy us → Holds n (own who (records b)) copy × (us ≡ answers (onto t (acceptance f r g) (his who es)))
-    unfolding onto acceptance
-    accepted-replayed true e c us₁ (applied {copy = copy} {us = us} p x u c₁ d) =
-        let m : Holds n (own who (records register)) copy × (us ≡ answers (his who es)) = s .replayed copy us p in
-        let w : eqs (sender (f .hgv)) who ≡ true = e in
-        let a = applied-step f register r b g o z copy (rw (s .many, eqs-true (sender (f .hgv)) who w) (m .0)) u c d in
-        (rw (← eqs-true (sender (f .hgv)) who w, ← s .many, ← after-many f register r b g o z) (a .0), rw (a .1, m .1))
-    accepted-replayed false e c us p =
-        let m = s .replayed c us p in
-        (rw (← s .many, ← after-many f register r b g o z) (another-step f register r b g o z who c e (rw (s .many) (m .0))), m .1)
+  abbrev event : Event
+  event = acceptanceBy (judgedUnder limit f register) f g
 
-    accepted-stands : Stands n who b (acceptance f r g ∷ es)
-    unfolding his sift concerns acceptance
-    accepted-stands =
-        record {
-          order = after-order f register r b g o z;
-          many = after-many f register r b g o z ∙ s .many;
-          replayed = accepted-replayed (eqs (sender (f .hgv)) who) refl;
-        }
+  accepted-replayed : (t : Bool) → eqs (sender (f .hgv)) who ≡ t → (copy : List ℕ) (us : List Counted)
+      → Replay n (entries (onto t event (his who es))) copy us → Holds n (own who (records b)) copy × (us ≡ answers (onto t event (his who es)))
+  unfolding onto acceptanceBy
+  accepted-replayed true e c us₁ (applied {copy = copy} {us = us} p x u c₁ d) =
+      let m : Holds n (own who (records register)) copy × (us ≡ answers (his who es)) = s .replayed copy us p in
+      let w : eqs (sender (f .hgv)) who ≡ true = e in
+      let k = applied-step limit f register b g a copy (rw (s .many, eqs-true (sender (f .hgv)) who w) (m .0)) u c d in
+      (rw (← eqs-true (sender (f .hgv)) who w, ← s .many, ← after-many limit f register b g a) (k .0), rw (k .1, m .1))
+  accepted-replayed false e c us p =
+      let m = s .replayed c us p in
+      (rw (← s .many, ← after-many limit f register b g a) (another-step limit f register b g a who c e (rw (s .many) (m .0))), m .1)
 
-  -- a refused file
-  refused-stands : (r .number ≡ 0 → ⊥) → Stands n who b es
-  refused-stands k = rw (refused-register f register r b g o k) s
+  accepted-stands : Stands n who b (event ∷ es)
+  unfolding his sift concerns acceptanceBy
+  accepted-stands =
+      record {
+        order = after-order limit f register b g a;
+        many = after-many limit f register b g a ∙ s .many;
+        replayed = accepted-replayed (eqs (sender (f .hgv)) who) refl;
+      }
+
+-- T13, each import under the limits of its day
+pub stands-under : {n : ℕ} {register : List ℕ} {es : List Event} → OursUnder n register es → (who : List ℕ) → Stands n who register es
+stands-under {n} (start m) who = start-stands n who m
+stands-under (accepted s limit f b g a) who = accepted-stands (stands-under s who) limit f b g a
+
+-- our side is such a sequence, under today's limits throughout
+under-today : {n : ℕ} {register : List ℕ} {es : List Event} → Ours n register es → OursUnder n register es
+under-today (start m) = start m
+under-today (accepted s f r b g o z) = rw (told-today f _ r b g o z) (accepted (under-today s) weightHolds f b (take (r .length) g) (accepted-today f _ r b g o z))
+under-today (refused s f r b g o k) = rw (refused-register f _ r b g o k) (under-today s)
 
 -- T13
 pub stands : {n : ℕ} {register : List ℕ} {es : List Event} → Ours n register es → (who : List ℕ) → Stands n who register es
-stands {n} (start m) who = start-stands n who m
-stands (accepted s f r b g o z) who = accepted-stands (stands s who) f r b g o z
-stands (refused s f r b g o k) who = refused-stands (stands s who) f r b g o k
+stands s = stands-under (under-today s)
 
 -- ---- he needs nothing else
 

@@ -5,12 +5,12 @@ use mathlib.Core.Bool.{not}
 use Rattle.theory.specs.First.{first}
 use Rattle.theory.specs.laws.First.{chosen}
 use Rattle.lines.proofs.Laws.{begins-is, fits-is}
-use Rattle.lines.specs.Rules.{lineRules, lineFault}
+use Rattle.lines.specs.Rules.{rulesBy, lineRules, lineFault}
 use Rattle.lines.proofs.line_fault.Statement.{statement}
 use Rattle.lines.proofs.line_fault.Tie as tie
 
 returns : tie.Need-returns
-unfolding lineFault lineRules first
+unfolding lineFault lineRules rulesBy first
 returns c =
     chosen _ _ _ _ _ _ (c .first11 .ensures) (ap not (c .before .holds-l1 .ensures)) (
     chosen _ _ _ _ _ _ (c .before .before .first10 .ensures) (ap not (c .before .before .before .holds-l2 .ensures)) (

@@ -31,7 +31,7 @@ use Rattle.times.specs.laws.Moment.{within, real-length, real-all}
 use Rattle.pans.specs.Pan.{panLength, pan}
 use Rattle.plates.specs.Plate.{allowed, plateLength, plate, nationality, separator, separated, plateCharacters}
 use Rattle.columns.specs.Columns.{text, actor, panOf, plateOf, nationalityOf, tariff, class, axles, emission, fuel, chargeable, productRest, engine, validTo, separatorOf}
-use Rattle.vehicles.specs.Vehicle.{tariffHolds, classHolds, emissionHolds, productHolds, engineHolds, validToHolds, separatorHolds, vehicleHolds, weightHolds}
+use Rattle.vehicles.specs.Vehicle.{tariffHolds, classHolds, emissionHolds, productHolds, engineHolds, validToHolds, separatorHolds, vehicleHolds}
 use Rattle.vehicles.specs.laws.Parts.{Parts, vehicle-parts}
 use Rattle.lines.specs.Rules.{L1, L5, L6, L7, L8, L9, recordHolds}
 
@@ -165,10 +165,10 @@ module _ (l : List ℕ) where
   -- the rules of a record are those of the spans
   record-rules : recordHolds l ≡ true → Each (λ r. r .rule l ≡ true) spans
   unfolding recordHolds spans joined
-  record-rules h = go (joined-each (sixDigits l) (L1 l ∷ L5 l ∷ L6 l ∷ L7 l ∷ L8 l ∷ L9 l ∷ vehicleHolds l ∷ weightHolds l ∷ []) h)
+  record-rules h = go (joined-each (sixDigits l) (L1 l ∷ L5 l ∷ L6 l ∷ L7 l ∷ L8 l ∷ L9 l ∷ vehicleHolds l ∷ []) h)
     where
-      go : Each (λ b. b ≡ true) (sixDigits l ∷ L1 l ∷ L5 l ∷ L6 l ∷ L7 l ∷ L8 l ∷ L9 l ∷ vehicleHolds l ∷ weightHolds l ∷ []) → Each (λ r. r .rule l ≡ true) spans
-      go (more a (more l1 (more l5 (more l6 (more l7 (more l8 (more l9 (more v (more w none))))))))) =
+      go : Each (λ b. b ≡ true) (sixDigits l ∷ L1 l ∷ L5 l ∷ L6 l ∷ L7 l ∷ L8 l ∷ L9 l ∷ vehicleHolds l ∷ []) → Each (λ r. r .rule l ≡ true) spans
+      go (more a (more l1 (more l5 (more l6 (more l7 (more l8 (more l9 (more v none)))))))) =
           more a (more v (more l1 (more l6 (more l7 (more l7 (more v (more v (more v (more l8 (more l9
           (more v (more v (more v (more v (more v (more v (more v (more v (more v (more v none))))))))))))))))))))
 

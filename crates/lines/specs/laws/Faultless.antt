@@ -14,14 +14,15 @@ use Rattle.theory.specs.laws.First.{first-clear, numbered}
 use Rattle.theory.specs.laws.Same.{eqs-true}
 use Rattle.theory.specs.Every.{run}
 use Rattle.theory.specs.laws.Every.{run-length, run-all, all-at}
-use Rattle.theory.specs.laws.Truth.{and-right, and-split}
+use Rattle.theory.specs.laws.Truth.{and-left, and-right, and-split}
 use Rattle.texts.specs.Field.{field}
 use Rattle.fields.specs.Field.{digit, capital, blank}
 use Rattle.times.specs.laws.Moment.{within}
 use Rattle.plates.specs.Plate.{nationality}
-use Rattle.vehicles.specs.Vehicle.{vehicleHolds, weightHolds}
+use Rattle.vehicles.specs.Vehicle.{vehicleHolds}
+use Rattle.weights.specs.Weights.{weightHolds}
 use Rattle.columns.specs.Columns.{actor, nationalityOf}
-use Rattle.lines.specs.Rules.{L1, L2, L3, L4, L5, L6, L7, L8, L9, L10, nationalityBlank, lineRules, lineFault, recordHolds}
+use Rattle.lines.specs.Rules.{L1, L2, L3, L4, L5, L6, L7, L8, L9, L10, nationalityBlank, rulesBy, lineRules, lineFault, recordHolds}
 use Rattle.lines.specs.Faultless.{Faultless}
 
 -- two capitals are no blanks
@@ -43,7 +44,7 @@ nationality-given l h = go (run blank 3 (nationalityOf l)) refl
 
 module _ (rows sender l : List ℕ) where
   pub faultless : lineFault rows sender l ≡ 0 → Faultless rows sender l
-  unfolding lineFault lineRules numbered
+  unfolding lineFault lineRules rulesBy numbered
   faultless h = go (first-clear (lineRules rows sender l) refl h)
     where
       go : None (lineRules rows sender l) → Faultless rows sender l
@@ -61,14 +62,35 @@ module _ (rows sender l : List ℕ) where
             l10 = not-false (L10 l) h₁₀;
           }
 
-  -- it is then a record of the sender
-  pub faultless-record : Faultless rows sender l → run digit 6 sender ≡ true → recordHolds l ≡ true
-  unfolding recordHolds L2 L10
-  faultless-record f d =
-      let s = and-split (vehicleHolds l) (weightHolds l) (f .l10) in
-      rw (eqs-true (actor l) sender (f .l2), d, f .l1, f .l5, f .l6, f .l7, f .l8, f .l9, s .0, s .1)
+  -- a line that passes is the sender's, and meets the rules of a record, whatever L10 asks beside the vehicle's fields
+  pub passes-record : (l10 : Bool) → (l10 ≡ true → vehicleHolds l ≡ true) → run digit 6 sender ≡ true → first (rulesBy l10 rows sender l) ≡ 0
+      → (L2 sender l ≡ true) × (recordHolds l ≡ true)
+  unfolding rulesBy numbered recordHolds L2
+  passes-record l10 v d h = go (first-clear (rulesBy l10 rows sender l) refl h)
+    where
+      go : None (rulesBy l10 rows sender l) → (L2 sender l ≡ true) × (recordHolds l ≡ true)
+      go (more h₁ (more h₂ (more h₃ (more h₄ (more h₅ (more h₆ (more h₀ (more h₇ (more h₈ (more h₉ (more h₁₀ none))))))))))) =
+          let o : L2 sender l ≡ true = not-false (L2 sender l) h₂ in (
+            o,
+            rw (
+              eqs-true (actor l) sender o,
+              d,
+              not-false (L1 l) h₁,
+              not-false (L5 l) h₅,
+              not-false (L6 l) h₆,
+              not-false (L7 l) h₇,
+              not-false (L8 l) h₈,
+              not-false (L9 l) h₉,
+              v (not-false l10 h₁₀),
+            ),
+          )
 
   -- and only then
   pub faultless-none : Faultless rows sender l → lineFault rows sender l ≡ 0
-  unfolding lineFault lineRules first choose
+  unfolding lineFault lineRules rulesBy first choose
   faultless-none f = rw (f .l1, f .l2, f .l3, f .l4, f .l5, f .l6, nationality-given l (f .l7), f .l7, f .l8, f .l9, f .l10)
+
+  -- so it is a record of the sender
+  pub faultless-record : Faultless rows sender l → run digit 6 sender ≡ true → recordHolds l ≡ true
+  unfolding lineFault lineRules L10
+  faultless-record f d = passes-record (L10 l) (and-left (vehicleHolds l) (weightHolds l)) d (faultless-none f) .1

@@ -4,10 +4,7 @@ use mathlib.Core.Bool.{Bool}
 use mathlib.Core.List.{List}
 use Prim.Native.Nat.{ℕ}
 use Rattle.theory.specs.laws.Outcome.{one-outcome}
-use Rattle.vehicles.specs.Promises.{HoldsVehicle, HoldsWeight}
+use Rattle.vehicles.specs.Promises.{HoldsVehicle}
 
 pub holds-vehicle-one : (l : List ℕ) (r s : Bool) → HoldsVehicle l r → HoldsVehicle l s → r ≡ s
 holds-vehicle-one l r s = one-outcome
-
-pub holds-weight-one : (l : List ℕ) (r s : Bool) → HoldsWeight l r → HoldsWeight l s → r ≡ s
-holds-weight-one l r s = one-outcome

@@ -15,7 +15,7 @@ use Rattle.theory.specs.Tally.{tally}
 use Rattle.theory.specs.laws.Tally.{tallies}
 use Rattle.theory.specs.laws.Scan.{length-scan, each-scan, distinct-scan, some-key}
 use Rattle.columns.specs.Columns.{panOf}
-use Rattle.lines.specs.Rules.{lineRules, lineFault}
+use Rattle.lines.specs.Rules.{rulesBy, lineRules, lineFault}
 use Rattle.lines.specs.Faultless.{Faultless}
 use Rattle.lines.specs.laws.Faultless.{faultless}
 use Rattle.slots.specs.Search.{holdsPan, heldByAnother}
@@ -31,12 +31,12 @@ rejected vs h = pick bad vs (linesOf h)
 module _ (rows from : List ℕ) (R : List (List ℕ)) where
   module _ (l : List ℕ) where
     own-numbered : numbered (ownRules rows from R l) ≡ true
-    unfolding ownRules lineRules numbered
+    unfolding ownRules lineRules rulesBy numbered
     own-numbered = refl
 
     -- L11 behind L1 to L10
     pub own-is : first (ownRules rows from R l) ≡ otherwise (lineFault rows from l) (choose (heldByAnother (panOf l) from R) 4 0)
-    unfolding ownRules lineFault first lineRules numbered
+    unfolding ownRules lineFault first lineRules rulesBy numbered
     own-is = first-append (lineRules rows from l) ((4 if heldByAnother (panOf l) from R) ∷ []) refl
 
     -- L12 behind them
@@ -46,7 +46,7 @@ module _ (rows from : List ℕ) (R : List (List ℕ)) where
 
     -- no reason is above 12
     pub verdict-most : (ts : List (List ℕ)) → verdict rows from R ts l ≤ 12
-    unfolding verdict verdictRules ownRules lineRules numberedTo
+    unfolding verdict verdictRules ownRules lineRules rulesBy numberedTo
     verdict-most ts = first-most 12 (verdictRules rows from R ts l) refl
 
   -- a taken line breaks none of L1 to L10, no other actor holds its PAN, and no line taken before it has that

@@ -1,0 +1,4 @@
+pub mod Weights
+pub mod Kilograms
+pub mod Promises
+pub mod laws

@@ -1,0 +1,2 @@
+pub mod Kilograms
+pub mod Outcomes
