@@ -30,9 +30,21 @@ pub const FUELS: [&str; 16] =
 /// Tariff (46-47).
 pub const TARIFFS: [&str; 8] = ["12", "22", "31", "32", "41", "51", "63", "71"];
 
-/// The tariffs that have a limit of weight, and the heaviest that they allow, in 10 kg.
-pub const LIGHT_TARIFFS: [&str; 2] = ["12", "22"];
-pub const HEAVIEST_LIGHT: &str = "0350";
+/// The weights (97-100) that a line may give under each tariff, from and to. A record may have any.
+pub const WEIGHTS: [(&str, &str, &str); 8] = [
+    ("12", "0001", "0349"),
+    ("22", "0001", "0349"),
+    ("31", "0350", "9999"),
+    ("32", "0350", "9999"),
+    ("41", "0350", "1199"),
+    ("51", "1200", "9999"),
+    ("63", "0001", "9999"),
+    ("71", "0001", "9999"),
+];
+
+/// A weight that is missing, which a line may have under each tariff; and a tariff that allows every weight.
+pub const NO_WEIGHT: &str = "0000";
+pub const ANY_WEIGHT: &str = "71";
 
 /// Emission (80-85).
 pub const EMISSIONS: [&str; 9] =

@@ -19,6 +19,8 @@ pub struct Trial {
     pub name: String,
     /// The reason of a line that the lists do not allow.
     reason: u8,
+    /// The lists are for lines alone: a record may have every value.
+    lines_alone: bool,
     all: Vec<(Vec<u8>, bool)>,
 }
 
@@ -26,7 +28,11 @@ impl Trial {
     /// Each line of the trial has a PAN of its own.
     fn of(name: String, reason: u8, values: impl IntoIterator<Item = (Puts, bool)>) -> Trial {
         let lines = values.into_iter().enumerate().map(|(i, (puts, right))| (line(i, &puts), right));
-        Trial { name, reason, all: lines.collect() }
+        Trial { name, reason, lines_alone: false, all: lines.collect() }
+    }
+
+    fn of_lines_alone(self) -> Trial {
+        Trial { lines_alone: true, ..self }
     }
 
     /// The first value that is answered otherwise, with every value in a file of lines that is judged as a whole. A byte
@@ -49,8 +55,9 @@ impl Trial {
 
     /// The same, with each value in a register of one record.
     pub fn as_records(&self, in_order: impl Fn(&[u8]) -> bool) -> Option<String> {
-        let other = |(line, right): &&(Vec<u8>, bool)| in_order(line) != *right;
-        self.all.iter().find(other).map(|(line, right)| self.told(line, if *right { "refused" } else { "let in" }))
+        let mut values = self.all.iter().map(|(line, right)| (line, *right || self.lines_alone));
+        let other = values.find(|(line, right)| in_order(line) != *right);
+        other.map(|(line, right)| self.told(line, if right { "refused" } else { "let in" }))
     }
 
     /// The same, with each value in an account of its own; what no account gives is left out.
@@ -87,6 +94,7 @@ fn digits(width: usize) -> impl Iterator<Item = String> {
 
 /// Every trial that has lines, each made when it is asked for.
 pub fn trials() -> impl Iterator<Item = Trial> {
-    let all = [fields::listed, fields::emissions, fields::bytes, plates::trials, times::trials, fields::weights];
-    all.into_iter().chain([times::dates as fn() -> Vec<Trial>]).flat_map(|made| made())
+    let of_fields = [fields::listed, fields::emissions, fields::bytes, fields::bytes_of_weight, fields::weights];
+    let all = of_fields.into_iter().chain([plates::trials as fn() -> Vec<Trial>, times::trials, times::dates]);
+    all.flat_map(|made| made())
 }

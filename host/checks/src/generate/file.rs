@@ -1,6 +1,6 @@
 //! HGV files from lines, and registers from records.
 
-use super::line::{put, reception, right_line, valid_to};
+use super::line::{put, put_wrong_weight, reception, right_line, valid_to};
 use super::rng::Rng;
 use super::world::World;
 
@@ -58,7 +58,7 @@ pub fn footer() -> Vec<u8> {
 }
 
 /// Records with different PANs. Their PANs come from the providers' rows, but a record may
-/// stand under another actor: rows are not asked of records.
+/// stand under another actor: rows are not asked of records. Nor are limits of weight.
 pub fn records(rng: &mut Rng, world: &World, most: usize, only: Option<&[u8]>) -> Vec<Vec<u8>> {
     let mut records: Vec<Vec<u8>> = Vec::new();
     for _ in 0..rng.below(most + 1) {
@@ -75,6 +75,9 @@ fn record(rng: &mut Rng, world: &World, only: Option<&[u8]>) -> Vec<u8> {
     let issuer = world.actor(rng);
     let mut record = right_line(rng, world, &issuer, &time);
     put(&mut record, 101, &valid_to(rng, &time));
+    if rng.one_in(6) {
+        put_wrong_weight(rng, &mut record);
+    }
     match only {
         Some(actor) => put(&mut record, 2, actor),
         None if rng.one_in(3) => put(&mut record, 2, &world.actor(rng)),

@@ -4,7 +4,7 @@ use std::collections::HashSet;
 
 use super::case::{break_some_rule, Case};
 use super::file::{header, hgv, register};
-use super::line::{put, reception, right_line};
+use super::line::{put, put_wrong_weight, reception, right_line};
 use super::rng::Rng;
 use super::world::World;
 use crate::hashed;
@@ -39,7 +39,11 @@ fn records(rng: &mut Rng, world: &World, reception: &[u8], n: usize) -> Vec<Vec<
     let mut pans = HashSet::new();
     let drawn = (0..n).map(|_| {
         let actor = world.actor(rng);
-        line(rng, world, &actor, reception)
+        let mut record = line(rng, world, &actor, reception);
+        if rng.one_in(12) {
+            put_wrong_weight(rng, &mut record);
+        }
+        record
     });
     drawn.filter(|record| pans.insert(record[13..32].to_vec())).collect()
 }

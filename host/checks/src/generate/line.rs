@@ -8,6 +8,10 @@ pub const PLATE_CHARACTERS: &[u8] =
 const HEX: &[u8] = b"0123456789ABCDEF";
 const NATIONALITIES: [&[u8]; 5] = [b"NO ", b"SE ", b"DK ", b"AA ", b"ZZ "];
 const TARIFFS: [&[u8]; 8] = [b"12", b"22", b"31", b"32", b"41", b"51", b"63", b"71"];
+/// The tariffs that have a limit of weight.
+const LIMITED: [&[u8]; 6] = [b"12", b"22", b"31", b"32", b"41", b"51"];
+/// Both sides of each limit, and both ends; 0 is missing.
+const WEIGHTS: [usize; 7] = [0, 1, 349, 350, 1199, 1200, 9999];
 const EMISSIONS: [&[u8]; 9] = [b"0", b"EEV", b"Euro1", b"Euro2", b"Euro3", b"Euro4", b"Euro5", b"Euro6", b"Euro7"];
 const FUELS: [&[u8]; 16] =
     [b"01", b"02", b"03", b"04", b"05", b"06", b"09", b"10", b"11", b"12", b"13", b"14", b"15", b"20", b"21", b"22"];
@@ -89,12 +93,38 @@ pub fn wrong_separators(k: usize) -> Vec<[u8; 2]> {
     all.filter(|pq| !right.contains(pq)).collect()
 }
 
-fn weight(rng: &mut Rng, tariff: &[u8]) -> Vec<u8> {
-    let light = tariff == b"12" || tariff == b"22";
-    let most = if light { 350 } else { 9999 };
-    let edges = [0, 1, 349, 350, most];
-    let weight = if rng.one_in(2) { edges[rng.below(5)] } else { rng.below(most + 1) };
-    format!("{weight:04}").into_bytes()
+/// The least and the most weight that a right line gives.
+pub fn weights(tariff: &[u8]) -> (usize, usize) {
+    match tariff {
+        b"12" | b"22" => (1, 349),
+        b"31" | b"32" => (350, 9999),
+        b"41" => (350, 1199),
+        b"51" => (1200, 9999),
+        _ => (1, 9999),
+    }
+}
+
+fn put_weight(line: &mut [u8], weight: usize) {
+    put(line, 97, format!("{weight:04}").as_bytes());
+}
+
+/// A weight that the tariff allows, half of them beside a limit or missing.
+fn put_right_weight(rng: &mut Rng, line: &mut [u8], tariff: &[u8]) {
+    let (least, most) = weights(tariff);
+    let mut edges = WEIGHTS.to_vec();
+    edges.retain(|weight| *weight == 0 || (least..=most).contains(weight));
+    let weight = if rng.one_in(2) { edges[rng.below(edges.len())] } else { rng.between(least, most) };
+    put_weight(line, weight);
+}
+
+/// A weight on the wrong side of its tariff's limit; a line that was taken when 0350 still counted as 3,500 kg is among these.
+pub fn put_wrong_weight(rng: &mut Rng, line: &mut [u8]) {
+    let tariff: &[u8] = rng.pick(&LIMITED);
+    let (least, most) = weights(tariff);
+    let mut edges = WEIGHTS.to_vec();
+    edges.retain(|weight| *weight != 0 && !(least..=most).contains(weight));
+    put(line, 46, tariff);
+    put_weight(line, edges[rng.below(edges.len())]);
 }
 
 fn engine(rng: &mut Rng) -> Vec<u8> {
@@ -130,7 +160,7 @@ fn put_equipment(rng: &mut Rng, line: &mut [u8]) {
     put(line, 88, &rng.from_alphabet(b"YN", 1));
     put(line, 92, &engine(rng));
     put(line, 95, &rng.digits(2));
-    put(line, 97, &weight(rng, tariff));
+    put_right_weight(rng, line, tariff);
 }
 
 /// A line that breaks none of L1 to L10 for its actor.
@@ -266,10 +296,7 @@ fn break_hex(rng: &mut Rng, line: &mut [u8], from: usize, width: usize) {
 fn break_l10(rng: &mut Rng, line: &mut [u8]) {
     match rng.below(WRONG_FIELDS.len() + 6) {
         0..=3 => break_separator(rng, line),
-        4 | 5 => {
-            put(line, 46, rng.pick(&[b"12", b"22"]));
-            put(line, 97, rng.pick(&[b"0351", b"0352", b"0420", b"9999"]));
-        }
+        4 | 5 => put_wrong_weight(rng, line),
         field => {
             let (from, wrong) = WRONG_FIELDS[field - 6];
             put(line, from, rng.pick(wrong));

@@ -42,12 +42,13 @@ fn hgc(hgv: &[u8], reception: &[u8], taken: usize, rejected: &Rejected) -> Vec<u
     hgc
 }
 
-/// A line is rejected that is faulty, that repeats a PAN, and now and then a right one.
+/// A line is rejected that is faulty, that repeats a PAN, and now and then a right one. One over its limit of weight may have
+/// been taken: the limits were others.
 fn split(rng: &mut Rng, sender: &[u8], lines: &[Vec<u8>]) -> (usize, Rejected) {
     let (mut pans, mut rejected): (Vec<&[u8]>, Rejected) = (Vec::new(), Vec::new());
     for line in lines {
         let pan = &line[13..32];
-        let faulty = &line[1..7] != sender || !crate::plain::line::holds_l1_l5_to_l10(line);
+        let faulty = &line[1..7] != sender || !crate::plain::line::record_rules_hold(line);
         if faulty || pans.contains(&pan) || rng.one_in(12) {
             rejected.push(rejected_line(rng, line));
         } else {

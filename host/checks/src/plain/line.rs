@@ -135,11 +135,22 @@ fn separator_fits_plate(line: &[u8]) -> bool {
     separator_right(positions(line, 115, 116), k)
 }
 
-/// "tariff 12 or 22 with weight above 0350"; 0000 is missing and meets every limit.
-fn weight_above_limit(line: &[u8]) -> bool {
-    let light = matches!(positions(line, 46, 47), b"12" | b"22");
+/// What a line's weight may be where it is given: "12 and 22 need at most 0349; 31 and 32 need at least 0350; 41 needs 0350 to
+/// 1199; 51 needs at least 1200". Code w covers 10w + 1 to 10w + 10 kg, so 0349 ends at 3,500 kg. 63 and 71 are free.
+fn weight_fits(tariff: &[u8], weight: u64) -> bool {
+    match tariff {
+        b"12" | b"22" => weight <= 349,
+        b"31" | b"32" => weight >= 350,
+        b"41" => (350..=1199).contains(&weight),
+        b"51" => weight >= 1200,
+        _ => true,
+    }
+}
+
+/// "0000 is missing and meets every limit".
+fn breaks_weight_limit(line: &[u8]) -> bool {
     let weight = number_of(positions(line, 97, 100)).unwrap_or(0);
-    light && weight > 350
+    weight > 0 && !weight_fits(positions(line, 46, 47), weight)
 }
 
 fn l10_front_right(line: &[u8]) -> bool {
@@ -162,17 +173,24 @@ fn l10_back_right(line: &[u8]) -> bool {
         && all_zeros(positions(line, 117, 127))
 }
 
-pub fn breaks_l10(line: &[u8]) -> bool {
-    !l10_front_right(line) || !l10_back_right(line) || weight_above_limit(line)
+/// L10 without the limits of weight: each field by itself, and the separator beside its plate.
+fn breaks_l10_fields(line: &[u8]) -> bool {
+    !l10_front_right(line) || !l10_back_right(line)
 }
 
-/// "L1, L5 to L10 hold": what a record and a taken line have in common.
-pub fn holds_l1_l5_to_l10(line: &[u8]) -> bool {
+/// L10 as a line is judged by it.
+pub fn breaks_l10(line: &[u8]) -> bool {
+    breaks_l10_fields(line) || breaks_weight_limit(line)
+}
+
+/// "L1, L5 to L10 hold", as 23 asks it of a record and 52 of a taken line: "records already stored are not judged by weight",
+/// but 97-100 are digits in them too.
+pub fn record_rules_hold(line: &[u8]) -> bool {
     !(breaks_l1(line)
         || breaks_l5(line)
         || breaks_l6(line)
         || breaks_l7(line)
         || breaks_l8(line)
         || breaks_l9(line)
-        || breaks_l10(line))
+        || breaks_l10_fields(line))
 }

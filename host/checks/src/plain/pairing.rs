@@ -94,7 +94,7 @@ pub fn line_clauses(hgv: &[u8], hgc: &[u8], marks: &[bool], differ: fn(&[&[u8]])
         (Clause::Copies, copies_right(&left, &copies)),
         (Clause::SharedPan, differ(&taken)),
         (Clause::TakenActor, taken.iter().all(|l| line::actor(l) == sender)),
-        (Clause::TakenRule, taken.iter().all(|l| line::holds_l1_l5_to_l10(l))),
+        (Clause::TakenRule, taken.iter().all(|l| line::record_rules_hold(l))),
     ];
     judged.into_iter().filter(|(_, right)| !right).map(|(clause, _)| clause).collect()
 }

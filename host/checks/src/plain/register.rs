@@ -16,7 +16,7 @@ fn has_used_form(slot: &[u8]) -> bool {
 
 /// What the text of a used slot must be.
 pub fn holds_as_record(slot: &[u8]) -> bool {
-    all_digits(line::actor(slot)) && line::holds_l1_l5_to_l10(slot)
+    all_digits(line::actor(slot)) && line::record_rules_hold(slot)
 }
 
 /// What a used slot must be, the other slots left aside.

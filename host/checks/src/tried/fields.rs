@@ -14,15 +14,24 @@ pub fn listed() -> Vec<Trial> {
     vec![of_list("fuel", 86, &FUELS), of_list("tariff", 46, &TARIFFS), of_list("engine", 92, &ENGINES)]
 }
 
-/// Every weight under every tariff.
+/// Every weight under every tariff; a record may have each of them.
 pub fn weights() -> Vec<Trial> {
-    let of_tariff = |tariff: &'static str| {
+    let of_tariff = |(tariff, from, to): (&'static str, &'static str, &'static str)| {
         digits(4).map(move |weight| {
-            let right = !LIGHT_TARIFFS.contains(&tariff) || weight.as_str() <= HEAVIEST_LIGHT;
+            let right = weight == NO_WEIGHT || (from..=to).contains(&weight.as_str());
             (vec![(46, tariff.as_bytes().to_vec()), (97, weight.into_bytes())], right)
         })
     };
-    vec![Trial::of("weight".to_string(), 12, TARIFFS.into_iter().flat_map(of_tariff))]
+    vec![Trial::of("weight".to_string(), 12, WEIGHTS.into_iter().flat_map(of_tariff)).of_lines_alone()]
+}
+
+/// All bytes in each place of a weight, where each of its digits is right.
+pub fn bytes_of_weight() -> Vec<Trial> {
+    let of_place = |place: usize| {
+        let value = |b: u8| (vec![(46, ANY_WEIGHT.as_bytes().to_vec()), (place, vec![b])], DIGITS.contains(&b));
+        Trial::of(format!("weight, position {place}"), 12, (0..=255).map(value))
+    };
+    (97..=100).map(of_place).collect()
 }
 
 /// All 256 bytes in one place.
@@ -34,7 +43,7 @@ pub(super) fn byte(name: &str, reason: u8, place: usize, allowed: &[u8]) -> Tria
 /// A field's name, its first and last position, the reason where it is wrong, and the bytes that it may have.
 type Places = (&'static str, usize, usize, u8, &'static [u8]);
 
-const PLACES: [Places; 12] = [
+const PLACES: [Places; 11] = [
     ("shadow", 8, 13, 12, BLANK),
     ("class", 48, 48, 12, DIGITS_OR_BLANK),
     ("axles", 49, 49, 12, DIGITS_OR_BLANK),
@@ -43,7 +52,6 @@ const PLACES: [Places; 12] = [
     ("88", 88, 88, 12, YES_OR_NO),
     ("89-91", 89, 91, 12, BLANK),
     ("CO2", 95, 96, 12, DIGITS),
-    ("weight", 97, 100, 12, DIGITS),
     ("117-127", 117, 127, 12, ZERO),
     ("nationality", 43, 44, 9, CAPITALS),
     ("nationality", 45, 45, 9, BLANK),
