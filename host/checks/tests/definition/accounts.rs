@@ -2,7 +2,7 @@
 
 use crate::common::*;
 use graftspindle::raw::List;
-use graftspindle_checks::lists::COLUMNS;
+use graftspindle_checks::lists::{self, COLUMNS};
 use graftspindle_checks::sample::{self, account_of, with_account};
 use graftspindle_checks::tried::{times, trials};
 use std::cell::Cell;
@@ -121,13 +121,35 @@ fn exchanged_columns() {
     assert!(numbers[&61] >= 110, "nearly all of 120 are refused");
 }
 
-/// The weight and the year of Valid to: a light tariff has a limit that tells it, a heavy one has none.
+/// The weight and the year of Valid to: a tariff that has a most weight tells them apart, the others do not.
 #[test]
 fn weight_for_year() {
     let line = with(&with(LINE0, 97, b"0120"), 101, b"20261231235959");
-    let wrong = with(&with(&line, 97, b"2026"), 101, b"0120");
     assert_eq!(number_of_all(&list(&account_of(&line))), 0);
-    assert_eq!(number_of_all(&list(&account_of(&wrong))), 61);
-    let heavy = with(&wrong, 46, b"31");
-    assert_eq!(of_all(|e| write(e, &list(&account_of(&heavy)), 320)), (0, hgv(slice::from_ref(&heavy))));
+    let wrong = |tariff: &[u8]| with(&with(&with(&line, 97, b"2026"), 101, b"0120"), 46, tariff);
+    for tariff in [b"12", b"22", b"41"] {
+        assert_eq!(number_of_all(&list(&account_of(&wrong(tariff)))), 61);
+    }
+    for tariff in [b"31", b"32", b"51", b"63", b"71"] {
+        let heavy = wrong(tariff);
+        assert_eq!(of_all(|e| write(e, &list(&account_of(&heavy)), 320)), (0, hgv(slice::from_ref(&heavy))));
+    }
+}
+
+/// The writer follows the rules of lines: what was a light weight before the limits were amended is 61, and a record's weight
+/// plays no part.
+#[test]
+fn weight_of_an_account() {
+    let number =
+        |tariff: &[u8], weight: &[u8]| number_of_all(&list(&account_of(&with(&with(LINE0, 46, tariff), 97, weight))));
+    assert_eq!([number(b"12", b"0349"), number(b"12", b"0350")], [0, 61]);
+    assert_eq!([number(b"22", b"0349"), number(b"22", b"0350")], [0, 61]);
+    assert_eq!([number(b"31", b"0349"), number(b"31", b"0350")], [61, 0]);
+    assert_eq!([number(b"32", b"0349"), number(b"32", b"0350")], [61, 0]);
+    assert_eq!([number(b"41", b"0349"), number(b"41", b"0350")], [61, 0]);
+    assert_eq!([number(b"41", b"1199"), number(b"41", b"1200")], [0, 61]);
+    assert_eq!([number(b"51", b"1199"), number(b"51", b"1200")], [61, 0]);
+    for tariff in lists::TARIFFS {
+        assert_eq!(number(tariff.as_bytes(), b"0000"), 0);
+    }
 }

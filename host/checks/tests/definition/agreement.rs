@@ -15,6 +15,7 @@ fn run_case(engine: &Engine, case: &Case) -> Outcome {
 #[test]
 fn imports() {
     let (mut numbers, mut reasons, mut rules) = (Counts::new(), Counts::new(), Counts::new());
+    let mut heavy = Counts::new();
     for seed in 0..SEEDS {
         let case = case(seed);
         let outcome = of_all(|engine| run_case(engine, &case));
@@ -22,6 +23,7 @@ fn imports() {
         if outcome.answer.number != 0 {
             continue;
         }
+        count(&mut heavy, case.register.chunks(128).any(over_limit));
         assert!(of_all(|engine| (engine.in_order)(&outcome.register)), "seed {seed}");
         let told = of_all(|engine| verdicts(engine, &case.hgv, &outcome));
         told.into_iter().for_each(|reason| count(&mut reasons, reason));
@@ -31,6 +33,7 @@ fn imports() {
     assert_reached("import's numbers", &numbers, (21..=34).chain([0]).collect());
     assert_reached("verdicts", &reasons, vec![0, 1, 2, 3, 4, 5, 6, 8, 9, 12]);
     assert_reached("rules L1 to L12", &rules, (0..=12).collect());
+    assert_reached("registers with a record over a limit of weight", &heavy, vec![false, true]);
 }
 
 #[test]
@@ -73,10 +76,10 @@ fn reading_back() {
 
 #[test]
 fn updates() {
-    let (mut numbers, mut alone) = (Counts::new(), Counts::new());
+    let (mut numbers, mut alone, mut heavy) = (Counts::new(), Counts::new(), Counts::new());
     for seed in 0..SEEDS {
         let p = pair(seed);
-        let (answer, _) = of_all(|engine| {
+        let (answer, after) = of_all(|engine| {
             let mut copy = p.copy.clone();
             let answer = (engine.update)(p.mode, &mut copy, &p.hgv, &p.hgc);
             assert!(answer.number == 0 || copy == p.copy, "seed {seed}");
@@ -86,7 +89,10 @@ fn updates() {
         if let (52, [clause]) = (answer.number, &clauses_of_52(&p.hgv, &p.hgc)[..]) {
             count(&mut alone, *clause);
         }
+        let stood = |slot: &[u8]| p.copy.chunks(128).any(|before| before == slot);
+        count(&mut heavy, after.chunks(128).any(|slot| over_limit(slot) && !stood(slot)));
     }
+    assert_reached("updates by a line over a limit of weight", &heavy, vec![false, true]);
     let expected = vec![0, 21, 23, 25, 26, 27, 28, 29, 30, 31, 32, 33, 51, 52];
     assert_reached("update's numbers", &numbers, expected);
     assert_reached("update's clauses of 52, alone", &alone, CLAUSES.to_vec());

@@ -2,6 +2,7 @@
 
 use graftspindle::raw::{Counted, Imported, List, Written};
 pub use graftspindle_checks::engines::{Engine, ENGINES};
+use graftspindle_checks::plain::line::{breaks_l10, record_rules_hold};
 use graftspindle_checks::sample;
 use std::collections::BTreeMap;
 use std::fmt::Debug;
@@ -37,6 +38,12 @@ pub fn x_other() -> Vec<u8> {
 
 pub fn bad() -> Vec<u8> {
     with(LINE0, 80, b"Euro9 ")
+}
+
+/// Whether nothing but a limit of weight keeps it from being taken as a line: a record may be so, and a line taken before the
+/// limits were amended.
+pub fn over_limit(line: &[u8]) -> bool {
+    breaks_l10(line) && record_rules_hold(line)
 }
 
 pub fn free(k: usize) -> Vec<u8> {

@@ -2,7 +2,7 @@
 //! implementations beside the lists.
 
 use crate::common::*;
-use graftspindle_checks::generate::line::{right_separators, wrong_separators};
+use graftspindle_checks::generate::line::{right_separators, weights, wrong_separators};
 use graftspindle_checks::generate::line::{PLATE_CHARACTERS, WRONG_FIELDS};
 use graftspindle_checks::plain::line::{breaks_l10, separator_right};
 use graftspindle_checks::tried::{pans, times, trials};
@@ -67,6 +67,10 @@ fn lists_of_the_generator() {
         assert!((0..100)
             .map(|n| format!("{n:02}").into_bytes())
             .all(|pq| separator_right(&pq, k as u64) == listed.contains(&&pq[..])));
+    }
+    for (tariff, from, to) in lists::WEIGHTS {
+        let (least, most) = weights(tariff.as_bytes());
+        assert_eq!((format!("{least:04}").as_str(), format!("{most:04}").as_str()), (from, to), "{tariff}");
     }
     for (from, wrong) in WRONG_FIELDS {
         for field in wrong {

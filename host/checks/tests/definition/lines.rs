@@ -4,13 +4,17 @@ use crate::common::*;
 use graftspindle_checks::plain::line::is_plate_character;
 use std::slice;
 
-fn assert_field(from: usize, wrong: &[&[u8]], reason: u8) {
-    for field in wrong {
-        let line = with(LINE0, from, field);
+fn assert_field_of(line: &[u8], from: usize, fields: &[&[u8]], reason: u8) {
+    for field in fields {
+        let line = with(line, from, field);
         for verdicts in verdicts_under(ROW0, slice::from_ref(&line)) {
-            assert_eq!(verdicts, [reason], "{from} {:?}", String::from_utf8_lossy(field));
+            assert_eq!(verdicts, [reason], "{}", line.escape_ascii());
         }
     }
+}
+
+fn assert_field(from: usize, fields: &[&[u8]], reason: u8) {
+    assert_field_of(LINE0, from, fields, reason);
 }
 
 #[test]
@@ -57,12 +61,47 @@ fn vehicle_fields() {
     assert_field(92, &[b"000", b"052", b"255", b"006"], 0);
 }
 
+/// A tariff, the weights on the right side of its limits and at both ends, and those on the wrong side.
+type Sides = (&'static [u8], &'static [&'static [u8]], &'static [&'static [u8]]);
+
+const SIDES: [Sides; 8] = [
+    (b"12", &[b"0000", b"0001", b"0349"], &[b"0350", b"0351", b"1199", b"1200", b"9999"]),
+    (b"22", &[b"0000", b"0001", b"0349"], &[b"0350", b"0351", b"1199", b"1200", b"9999"]),
+    (b"31", &[b"0000", b"0350", b"1199", b"1200", b"9999"], &[b"0001", b"0349"]),
+    (b"32", &[b"0000", b"0350", b"1199", b"1200", b"9999"], &[b"0001", b"0349"]),
+    (b"41", &[b"0000", b"0350", b"1199"], &[b"0001", b"0349", b"1200", b"9999"]),
+    (b"51", &[b"0000", b"1200", b"9999"], &[b"0001", b"0349", b"0350", b"1199"]),
+    (b"63", &[b"0000", b"0001", b"0349", b"0350", b"1199", b"1200", b"9999"], &[]),
+    (b"71", &[b"0000", b"0001", b"0349", b"0350", b"1199", b"1200", b"9999"], &[]),
+];
+
 #[test]
-fn weight_valid_to_separator() {
-    assert_field(97, &[b"0351", b"0420", b"    ", b" 350"], 12);
-    assert_field(97, &[b"0000", b"0350"], 0);
-    let heavy = with(&with(LINE0, 46, b"31"), 97, b"9999");
-    assert_verdicts(&[heavy], &[0]);
+fn weight_under_each_tariff() {
+    for (tariff, right, wrong) in SIDES {
+        let line = with(LINE0, 46, tariff);
+        assert_field_of(&line, 97, right, 0);
+        assert_field_of(&line, 97, wrong, 12);
+        assert_field_of(&line, 97, &[b"    ", b" 350", b"035O", b"120 "], 12);
+    }
+}
+
+/// Code 0350 covers 3,501 to 3,510 kg, 0349 covers 3,491 to 3,500: the dealer's camper is not light.
+#[test]
+fn camper_of_3510_kg() {
+    let camper = |tariff: &[u8], code: &[u8]| with(&with(LINE0, 46, tariff), 97, code);
+    assert_verdicts(&[camper(b"12", b"0350")], &[12]);
+    assert_verdicts(&[camper(b"22", b"0350")], &[12]);
+    assert_verdicts(&[camper(b"31", b"0350")], &[0]);
+    assert_verdicts(&[camper(b"12", b"0349")], &[0]);
+    for engine in ENGINES {
+        let outcome = run_lines(engine, &free(2), &[camper(b"12", b"0350"), y()]);
+        assert_eq!(outcome.hgc, hgc(1, &[(&camper(b"12", b"0350"), "12")]));
+        assert_eq!(outcome.register, [y(), free(1)].concat());
+    }
+}
+
+#[test]
+fn valid_to_separator() {
     assert_field(101, &[b"00000000000001", b"20230229000000", b"              "], 12);
     assert_field(101, &[b"20240229235959", b"00010101000000", b"99991231235959"], 0);
     assert_field(115, &[b"70", b"38", b"10", b"34", b"15", b"07", b"  "], 12);

@@ -1,6 +1,7 @@
 //! Reading an HGC back, the provider's update, and the clauses of 52.
 
 use crate::common::*;
+use graftspindle_checks::lists;
 use graftspindle_checks::plain::{clauses_of_52, Clause};
 use std::slice;
 
@@ -99,6 +100,46 @@ fn taken_lines() {
         assert_eq!(read(engine, &hgv(slice::from_ref(&unknown)), &hgc(1, &[]), 1), (0, 1, 0, vec![0]));
         let shared = hgc(1, &[(&bad(), "12")]);
         assert_eq!(read(engine, &hgv(&[bad(), x()]), &shared, 2), (0, 1, 1, vec![12, 0]));
+    }
+}
+
+/// A taken line is judged as a record is: by no limit of weight, but its weight is digits.
+#[test]
+fn weight_of_a_taken_line() {
+    for tariff in lists::TARIFFS {
+        let line = with(LINE0, 46, tariff.as_bytes());
+        for weight in [b"0000", b"0001", b"0349", b"0350", b"1199", b"1200", b"9999"] {
+            let lines = [with(&line, 97, weight)];
+            assert_eq!(clauses_of_52(&hgv(&lines), &hgc(1, &[])), []);
+            for engine in ENGINES {
+                assert_eq!(read(engine, &hgv(&lines), &hgc(1, &[]), 1), (0, 1, 0, vec![0]));
+            }
+            assert_update(1, free(1), &lines, &hgc(1, &[]), 0, &lines[0]);
+        }
+        for weight in [b"    ", b" 350", b"350 ", b"035O", b"0.35"] {
+            assert_52(&[with(&line, 97, weight)], &hgc(1, &[]), Clause::TakenRule);
+        }
+    }
+}
+
+/// A pair from before the limits were amended, when 0350 was light: the provider applies it as he did then, and his copy is in
+/// order. The same file imported now is answered with 12.
+#[test]
+fn old_pair() {
+    let old = with(LINE0, 97, b"0350");
+    let lines = [old.clone(), y()];
+    assert_update(1, free(2), &lines, &hgc(2, &[]), 0, &lines.concat());
+    assert_update(2, [y(), old.clone()].concat(), &lines, &hgc(2, &[]), 0, &lines.concat());
+    assert_update(1, [old.clone(), free(1)].concat(), &[y()], &hgc(1, &[]), 0, &lines.concat());
+    assert_update(1, with(&old, 97, b"9999"), &[x()], &hgc(1, &[]), 0, &x());
+    assert_update(1, with(&old, 97, b"035O"), &[x()], &hgc(1, &[]), 23, &with(&old, 97, b"035O"));
+    for engine in ENGINES {
+        assert_eq!(read(engine, &hgv(&lines), &hgc(2, &[]), 2), (0, 2, 0, vec![0, 0]));
+        let now = run_lines(engine, &free(2), &lines);
+        assert_eq!((&now.hgc, verdicts(engine, &hgv(&lines), &now)), (&hgc(1, &[(&old, "12")]), vec![12, 0]));
+        let mut copy = [old.clone(), free(1)].concat();
+        assert_eq!((engine.update)(1, &mut copy, &hgv(&lines), &now.hgc).number, 0);
+        assert_eq!(copy, lines.concat());
     }
 }
 

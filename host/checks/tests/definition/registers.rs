@@ -1,6 +1,8 @@
 //! When a register is in order, and what it holds after a full list.
 
 use crate::common::*;
+use graftspindle_checks::lists;
+use std::slice;
 
 #[test]
 fn in_order() {
@@ -19,7 +21,8 @@ fn in_order() {
         ([x(), y(), free(2)].concat(), true),
         ([x(), with(&x(), 2, b"900124")].concat(), false),
         (with(LINE0, 2, b"90012A"), false),
-        (with(LINE0, 97, b"0351"), false),
+        (with(LINE0, 97, b"9999"), true),
+        (with(LINE0, 97, b"035O"), false),
         (with(LINE0, 2, b"999999"), true),
         ([with(LINE0, 14, b"00000018           "), with(LINE0, 14, b"000000018          ")].concat(), true),
     ];
@@ -29,6 +32,49 @@ fn in_order() {
             let number = if *expected { 0 } else { 23 };
             assert_eq!(run(engine, 1, R0, register, ROW0, &hgv(&[]), 174).answer.number, number);
         }
+    }
+}
+
+/// "Records already stored are not judged by weight": in order, and kept by an import; a line of the same text is rejected.
+#[test]
+fn records_of_any_weight() {
+    for tariff in lists::TARIFFS {
+        for weight in [b"0000", b"0001", b"0349", b"0350", b"1199", b"1200", b"9999"] {
+            let record = with(&with(LINE0, 46, tariff.as_bytes()), 97, weight);
+            let reason = verdicts_under(ROW0, slice::from_ref(&record))[0][0];
+            for engine in ENGINES {
+                assert!((engine.in_order)(&record), "{}: {}", engine.name, record.escape_ascii());
+                let outcome = run_lines(engine, &[record.clone(), free(1)].concat(), &[y(), record.clone()]);
+                assert_eq!(outcome.register, [record.clone(), y()].concat());
+                assert_eq!(verdicts(engine, &hgv(&[y(), record.clone()]), &outcome), [0, reason]);
+            }
+        }
+    }
+}
+
+/// The limits alone are left out: 97-100 are digits in a record too.
+#[test]
+fn weight_of_a_record_is_digits() {
+    for tariff in lists::TARIFFS {
+        for weight in [b"    ", b" 350", b"350 ", b"035O", b"0.35"] {
+            let record = with(&with(LINE0, 46, tariff.as_bytes()), 97, weight);
+            for engine in ENGINES {
+                assert!(!(engine.in_order)(&record), "{}: {}", engine.name, record.escape_ascii());
+                assert_eq!(run_lines(engine, &record, &[]).answer.number, 23);
+            }
+        }
+    }
+}
+
+/// A record from before the limits were amended gives way to a line of its PAN.
+#[test]
+fn old_record_is_replaced() {
+    let old = with(LINE0, 97, b"0350");
+    for engine in ENGINES {
+        assert_eq!(run_lines(engine, &old, &[x()]).register, x());
+        assert_eq!(run_lines(engine, &old, &[with(&old, 46, b"31")]).register, with(&old, 46, b"31"));
+        let full = run(engine, 2, R0, &old, ROW0, &hgv(slice::from_ref(&old)), 304);
+        assert_eq!((full.register, full.hgc), (free(1), hgc(0, &[(&old, "12")])));
     }
 }
 
