@@ -44,8 +44,9 @@ pub fn wrong_time(rng: &mut Rng) -> Vec<u8> {
     rng.pick(&wrong).to_vec()
 }
 
+/// A slot that an earlier damage has cut is none.
 pub fn damage_register(rng: &mut Rng, world: &World, register: &mut Vec<u8>) {
-    let used = register.chunks(128).filter(|slot| slot[0] == b'1').count();
+    let used = register.chunks_exact(128).filter(|slot| slot[0] == b'1').count();
     match rng.below(12) {
         0 => change_one_byte(rng, register),
         1 => change_length(rng, register, 128),

@@ -90,7 +90,7 @@ fn updates() {
             count(&mut alone, *clause);
         }
         let stood = |slot: &[u8]| p.copy.chunks(128).any(|before| before == slot);
-        count(&mut heavy, after.chunks(128).any(|slot| over_limit(slot) && !stood(slot)));
+        count(&mut heavy, after.chunks_exact(128).any(|slot| over_limit(slot) && !stood(slot)));
     }
     assert_reached("updates by a line over a limit of weight", &heavy, vec![false, true]);
     let expected = vec![0, 21, 23, 25, 26, 27, 28, 29, 30, 31, 32, 33, 51, 52];
