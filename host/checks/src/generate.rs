@@ -18,4 +18,4 @@ pub use giving::{giving, large_giving, Giving};
 pub use large::large;
 pub use pair::{pair, Pair};
 pub use question::{question, Question};
-pub use sequence::{sequence, slots, Event};
+pub use sequence::{sequence, start, Event};

@@ -42,9 +42,11 @@ pub const WEIGHTS: [(&str, &str, &str); 8] = [
     ("71", "0001", "9999"),
 ];
 
-/// A weight that is missing, which a line may have under each tariff; and a tariff that allows every weight.
+/// What stands for a missing weight: a line may have it under each tariff.
 pub const NO_WEIGHT: &str = "0000";
-pub const ANY_WEIGHT: &str = "71";
+
+/// A tariff that allows every weight.
+pub const FREE_TARIFF: &str = "71";
 
 /// Emission (80-85).
 pub const EMISSIONS: [&str; 9] =

@@ -42,8 +42,8 @@ fn hgc(hgv: &[u8], reception: &[u8], taken: usize, rejected: &Rejected) -> Vec<u
     hgc
 }
 
-/// A line is rejected that is faulty, that repeats a PAN, and now and then a right one. One over its limit of weight may have
-/// been taken: the limits were others.
+/// A line is rejected that is faulty, that repeats a PAN, and now and then a right one. One that is over a limit of weight may
+/// have been taken before the limits were amended.
 fn split(rng: &mut Rng, sender: &[u8], lines: &[Vec<u8>]) -> (usize, Rejected) {
     let (mut pans, mut rejected): (Vec<&[u8]>, Rejected) = (Vec::new(), Vec::new());
     for line in lines {
@@ -58,7 +58,7 @@ fn split(rng: &mut Rng, sender: &[u8], lines: &[Vec<u8>]) -> (usize, Rejected) {
     (pans.len(), rejected)
 }
 
-/// Lines the HGC calls taken although it must not: a shared PAN, another actor, a fault.
+/// Lines the HGC calls taken although it must not: a shared PAN, another actor, a fault. A weight over its limit is none.
 fn smuggle(rng: &mut Rng, world: &World, lines: &mut Vec<Vec<u8>>, sender: &[u8]) -> usize {
     let time = reception(rng);
     let mut line = right_line(rng, world, sender, &time);

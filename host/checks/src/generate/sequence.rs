@@ -2,7 +2,7 @@
 
 use super::case::lines;
 use super::damage::{change_one_byte, wrong_mode, wrong_time};
-use super::file::{header, hgv};
+use super::file::{header, hgv, records, register};
 use super::line::reception;
 use super::rng::Rng;
 use super::world::World;
@@ -40,9 +40,15 @@ fn spoil(rng: &mut Rng, event: &mut Event) {
     }
 }
 
-/// How many slots the register of a sequence has: few, so that 33 happens.
-pub fn slots(seed: u64) -> usize {
-    [0, 1, 4, 8, 16, 40][Rng::new(seed ^ 0xABCD).below(6)]
+/// The register that a sequence begins with, of few slots, so that 33 happens: free, or with records of before, some of which are
+/// over a limit of weight.
+pub fn start(seed: u64) -> Vec<u8> {
+    let world = World::new(&mut Rng::new(seed));
+    let mut rng = Rng::new(seed ^ 0xABCD);
+    let slots = [0, 1, 4, 8, 16, 40][rng.below(6)];
+    let most = if rng.one_in(2) { slots / 2 } else { 0 };
+    let records = records(&mut rng, &world, most, None);
+    register(&records, slots - records.len())
 }
 
 /// The rows change on the way: an issuer may lose one or gain one.

@@ -25,10 +25,10 @@ pub fn weights() -> Vec<Trial> {
     vec![Trial::of("weight".to_string(), 12, WEIGHTS.into_iter().flat_map(of_tariff)).of_lines_alone()]
 }
 
-/// All bytes in each place of a weight, where each of its digits is right.
+/// All bytes in each place of a weight, under a tariff that has no limit.
 pub fn bytes_of_weight() -> Vec<Trial> {
     let of_place = |place: usize| {
-        let value = |b: u8| (vec![(46, ANY_WEIGHT.as_bytes().to_vec()), (place, vec![b])], DIGITS.contains(&b));
+        let value = |b: u8| (vec![(46, FREE_TARIFF.as_bytes().to_vec()), (place, vec![b])], DIGITS.contains(&b));
         Trial::of(format!("weight, position {place}"), 12, (0..=255).map(value))
     };
     (97..=100).map(of_place).collect()

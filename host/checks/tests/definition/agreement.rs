@@ -2,7 +2,7 @@
 
 use crate::common::*;
 use graftspindle::raw::{Counted, Imported};
-use graftspindle_checks::generate::{case, pair, question, sequence, slots, Case, Event};
+use graftspindle_checks::generate::{case, pair, question, sequence, start, Case, Event};
 use graftspindle_checks::plain::{clauses_of_52, rules_broken, CLAUSES};
 use std::collections::BTreeMap;
 
@@ -123,15 +123,15 @@ fn apply(engine: &Engine, event: &Event, outcome: &Outcome, copy: &mut [u8]) {
 /// What a sequence leaves: the outcome of each import, and each provider's copy.
 type Left = (Vec<Outcome>, BTreeMap<Vec<u8>, Vec<u8>>);
 
-/// A provider who applies each confirmation he gets holds our records of him.
+/// A provider who holds our records of him, those of before too, and applies each confirmation he gets, holds them again.
 fn follow(engine: &Engine, seed: u64) -> Left {
-    let mut register = vec![0; slots(seed) * 128];
+    let mut register = start(seed);
     let (mut outcomes, mut copies) = Left::default();
     for event in sequence(seed) {
         let outcome = import_event(engine, &register, &event);
         if outcome.answer.number == 0 {
-            let none = vec![0; register.len()];
-            let copy = copies.entry(event.hgv[1..7].to_vec()).or_insert(none);
+            let actor = &event.hgv[1..7];
+            let copy = copies.entry(actor.to_vec()).or_insert_with(|| copy_expected(&register, actor));
             apply(engine, &event, &outcome, copy);
         }
         register.clone_from(&outcome.register);
@@ -145,11 +145,13 @@ fn follow(engine: &Engine, seed: u64) -> Left {
 
 #[test]
 fn sequences() {
-    let mut numbers = Counts::new();
+    let (mut numbers, mut heavy) = (Counts::new(), Counts::new());
     for seed in 0..SEQUENCES {
-        let (outcomes, _) = of_all(|engine| follow(engine, seed));
+        let (outcomes, copies) = of_all(|engine| follow(engine, seed));
         outcomes.iter().for_each(|outcome| count(&mut numbers, outcome.answer.number));
+        copies.values().for_each(|copy| count(&mut heavy, copy.chunks(128).any(over_limit)));
     }
     println!("sequences' numbers: {numbers:?}");
+    assert_reached("copies with a record over a limit of weight", &heavy, vec![false, true]);
     assert!([0, 21, 22, 24, 28, 33, 34].iter().all(|number| numbers[number] >= 10));
 }

@@ -35,18 +35,19 @@ fn in_order() {
     }
 }
 
-/// "Records already stored are not judged by weight": in order, and kept by an import; a line of the same text is rejected.
+/// "Records already stored are not judged by weight": in order, and kept by an import. A line of the same text is judged.
 #[test]
 fn records_of_any_weight() {
-    for tariff in lists::TARIFFS {
-        for weight in [b"0000", b"0001", b"0349", b"0350", b"1199", b"1200", b"9999"] {
-            let record = with(&with(LINE0, 46, tariff.as_bytes()), 97, weight);
-            let reason = verdicts_under(ROW0, slice::from_ref(&record))[0][0];
+    for (tariff, from, to) in lists::WEIGHTS {
+        for weight in ["0000", "0001", "0349", "0350", "1199", "1200", "9999"] {
+            let record = with(&with(LINE0, 46, tariff.as_bytes()), 97, weight.as_bytes());
+            let right = weight == lists::NO_WEIGHT || (from..=to).contains(&weight);
             for engine in ENGINES {
                 assert!((engine.in_order)(&record), "{}: {}", engine.name, record.escape_ascii());
                 let outcome = run_lines(engine, &[record.clone(), free(1)].concat(), &[y(), record.clone()]);
                 assert_eq!(outcome.register, [record.clone(), y()].concat());
-                assert_eq!(verdicts(engine, &hgv(&[y(), record.clone()]), &outcome), [0, reason]);
+                let told = verdicts(engine, &hgv(&[y(), record.clone()]), &outcome);
+                assert_eq!(told, [0, if right { 0 } else { 12 }], "{}", record.escape_ascii());
             }
         }
     }
