@@ -117,7 +117,7 @@ fn put_right_weight(rng: &mut Rng, line: &mut [u8], tariff: &[u8]) {
     put_weight(line, weight);
 }
 
-/// A weight on the wrong side of its tariff's limit; a line that was taken when 0350 still counted as 3,500 kg is among these.
+/// A weight on the wrong side of its tariff's limit. A line that was taken when 0350 counted as 3,500 kg is among these.
 pub fn put_wrong_weight(rng: &mut Rng, line: &mut [u8]) {
     let tariff: &[u8] = rng.pick(&LIMITED);
     let (least, most) = weights(tariff);

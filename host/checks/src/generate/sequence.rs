@@ -40,8 +40,8 @@ fn spoil(rng: &mut Rng, event: &mut Event) {
     }
 }
 
-/// The register that a sequence begins with, of few slots, so that 33 happens: free, or with records of before, some of which are
-/// over a limit of weight.
+/// The register that a sequence begins with: free, or with records of before, some of which are over a limit of weight. It has
+/// few slots, so that 33 happens.
 pub fn start(seed: u64) -> Vec<u8> {
     let world = World::new(&mut Rng::new(seed));
     let mut rng = Rng::new(seed ^ 0xABCD);
