@@ -3,6 +3,7 @@
 mod accounts;
 mod fault;
 mod fields;
+mod model;
 
 use std::ffi::OsStr;
 use std::path::Path;

@@ -2,33 +2,13 @@
 //! into which what was given is put piece by piece; the first piece with which it refuses is the one.
 
 use super::accounts::Accounts;
-use super::fields::{self, Field, FIELDS, PAN};
+use super::fields::{Field, FIELDS, PAN};
+use super::model::{is_refused, row_of, Model, LIST};
 use crate::command::input::Input;
 use crate::command::options::{Opt, CREATED, DATE, NUMBER, PREVIOUS, SENDER, VERSION};
 use crate::command::{hints, texts, Refusal};
 use graftspindle::sizes::{ACCOUNT, LINES_MOST};
-use graftspindle::{List, Number, NO_LIST};
-
-/// A list without accounts that the writer takes, but for its rows.
-const MODEL: List = List {
-    version: 120001,
-    sender: b"900123",
-    date: b"20250310",
-    number: 1,
-    previous: NO_LIST,
-    creation: b"20250310040000",
-    rows: b"",
-    accounts: b"",
-};
-
-/// The row for the model account, of this sender.
-fn row_of(sender: &[u8]) -> Vec<u8> {
-    [b"97990012      0816", sender].concat()
-}
-
-fn is_refused(list: &List, number: Number) -> bool {
-    graftspindle::write(list) == Err(number)
-}
+use graftspindle::{List, Number};
 
 /// What can be said of the refusal.
 pub fn explained(number: Number, list: &List, rows: &Input, accounts: &Accounts) -> Refusal {
@@ -40,8 +20,8 @@ pub fn explained(number: Number, list: &List, rows: &Input, accounts: &Accounts)
 }
 
 fn of_header(list: &List) -> Option<String> {
-    let (model_row, row) = (row_of(MODEL.sender), row_of(list.sender));
-    let version = List { version: list.version, rows: &model_row, ..MODEL };
+    let (model_row, row) = (row_of(LIST.sender), row_of(list.sender));
+    let version = List { version: list.version, rows: &model_row, ..LIST };
     let sender = List { sender: list.sender, rows: &row, ..version };
     let date = List { date: list.date, ..sender };
     let number = List { number: list.number, ..date };
@@ -90,10 +70,10 @@ fn of_accounts(list: &List, accounts: &Accounts) -> String {
 /// The fields but for the PAN go into the model account, under its row, in their order: so what a weight or a separator has
 /// to do with a field before it shows at the weight or the separator. Where the writer takes them all, it is the PAN.
 fn field(list: &List, account: &[u8]) -> &'static Field {
-    let (row, mut asked) = (row_of(list.sender), fields::model());
+    let mut model = Model::of(*list);
     let is_bad = |field: &&Field| {
-        asked[field.column()].copy_from_slice(&account[field.column()]);
-        is_refused(&List { rows: &row, accounts: &asked, ..*list }, Number::Given)
+        model.put(field, &account[field.column()]);
+        model.is_refused()
     };
     FIELDS.iter().filter(|field| field.name != PAN.name).find(is_bad).unwrap_or(PAN)
 }
