@@ -95,7 +95,7 @@ fn each_field_of_a_line() {
   89-91   rest of product code                       blank
   92-94   engine                031                  plug-in hybrid, diesel
   95-96   CO2                   18                   carbon dioxide pollution value 18
-  97-100  weight                0420                 4,200 to 4,209 kg
+  97-100  weight                0420                 4,201 to 4,210 kg
  101-114  Valid to              20301231235959       2030-12-31 23:59:59 UTC
  115-116  separator             38                   AB-C123-B
  117-127  filler                00000000000          reserved for future use
@@ -150,18 +150,41 @@ fn positions_without_a_gap() {
     }
 }
 
-/// A weight one column to the left is ten times as much.
+/// A weight one column to the left is about ten times as much.
 #[test]
 fn weight() {
     let shown = |from, field: &[u8]| only(line_with(0, from, field)).row("97-100", "weight");
     let words = |field: &[u8]| shown(97, field).split_once(' ').map(|(_, words)| words.trim().to_string());
-    assert!(shown(97, b"0420").starts_with("0420 ") && shown(97, b"0420").ends_with(" 4,200 to 4,209 kg"));
-    assert!(shown(96, b"0420").starts_with("4200 ") && shown(96, b"0420").ends_with(" 42,000 to 42,009 kg"));
-    assert_eq!(words(b"0001").as_deref(), Some("10 to 19 kg"));
-    assert_eq!(words(b"0350").as_deref(), Some("3,500 to 3,509 kg"));
-    assert_eq!(words(b"9999").as_deref(), Some("99,990 to 99,999 kg"));
+    assert!(shown(97, b"0420").starts_with("0420 ") && shown(97, b"0420").ends_with(" 4,201 to 4,210 kg"));
+    assert!(shown(96, b"0420").starts_with("4200 ") && shown(96, b"0420").ends_with(" 42,001 to 42,010 kg"));
+    assert_eq!(words(b"0001").as_deref(), Some("11 to 20 kg"));
+    assert_eq!(words(b"0349").as_deref(), Some("3,491 to 3,500 kg"));
+    assert_eq!(words(b"0350").as_deref(), Some("3,501 to 3,510 kg"));
+    assert_eq!(words(b"9999").as_deref(), Some("99,991 to 100,000 kg"));
     assert_eq!(words(b"0000").as_deref(), Some("missing"));
     assert_eq!(shown(97, b"+420"), "+420");
+}
+
+/// A camper of 3,510 kg is no light vehicle; one of 3,500 kg is.
+#[test]
+fn campers() {
+    let camper = |i: usize, tariff: &str, weight: &str| {
+        let mut line = line_with(i, 46, tariff.as_bytes());
+        line[96..100].copy_from_slice(weight.as_bytes());
+        line
+    };
+    let lines = [camper(0, "12", "0350"), camper(1, "32", "0350"), camper(2, "12", "0349"), camper(3, "32", "0349")];
+    let (parts, last) = explained(&sample::hgv_of(&lines), " --issuers @rows");
+    let (heavy, light) = ("3,501 to 3,510 kg", "3,491 to 3,500 kg");
+    let (taken, rejected) = ("taken", "rejected 12: miscellaneous");
+    for (i, (verdict, words)) in
+        [(rejected, heavy), (taken, heavy), (taken, light), (rejected, light)].iter().enumerate()
+    {
+        let part = &parts[1 + i];
+        assert_eq!(part.heading, format!("line {}: {verdict}", i + 1));
+        assert!(part.row("97-100", "weight").ends_with(&format!(" {words}")), "{}", part.row("97-100", "weight"));
+    }
+    assert!(last.starts_with("taken 2, rejected 2 of the whole file; "), "{last}");
 }
 
 /// A line for each value of a field: it has words exactly where the import takes it.
@@ -389,7 +412,7 @@ fn fields_as_json() {
         told.starts_with("{\"status\":0,\"header\":[{\"from\":1,\"to\":1,\"name\":\"register identifier\","),
         "{told}"
     );
-    let weight = r#"{"from":97,"to":100,"name":"weight","value":"0420","words":"4,200 to 4,209 kg"}"#;
+    let weight = r#"{"from":97,"to":100,"name":"weight","value":"0420","words":"4,201 to 4,210 kg"}"#;
     assert_eq!(told.matches(weight).count(), 1);
     assert!(told.contains(r#""lines":[{"line":1,"fields":[{"from":1,"#) && told.ends_with(",\"refused\":null}\n"));
     let values = told.split("\"value\":\"").skip(1).map(|rest| rest.split_once("\",\"words\":").expect("words").0);

@@ -55,16 +55,36 @@ fn each_field() {
 /// What one field has to do with another one shows at the later one.
 #[test]
 fn fields_that_do_not_fit_each_other() {
-    let light = table(&ACCOUNTS).replace(",0180,", ",0351,");
-    assert_unwritten(
-        &given(light),
-        WRITE,
-        61,
-        &["line 2, weight \"0351\", expected", "not above 0350 with tariff 12 or 22"],
-    );
-    assert_eq!(graftspindle(&given(table(&ACCOUNTS).replace(",0180,", ",350,")), WRITE).status, 0);
     let short = table(&ACCOUNTS).replace("ABC123", "AB");
     assert_unwritten(&given(short), WRITE, 61, &["line 2, separator \"30\", expected"]);
+}
+
+/// The first account with this tariff and this weight.
+fn weighing(tariff: &str, weight: &str) -> Folder {
+    given(table(&ACCOUNTS).replace(",NO,12,", &format!(",NO,{tariff},")).replace(",0180,", &format!(",{weight},")))
+}
+
+/// The weights that the words name beside each tariff are written, and those next to them are refused at the weight.
+#[test]
+fn weight_beside_the_tariff() {
+    for (tariffs, right, wrong, words) in [
+        (&["12", "22"][..], &["0001", "0349"][..], &["0350", "9999"][..], "at most 0349 with tariff 12 or 22"),
+        (&["31", "32"], &["0350", "9999"], &["0001", "0349"], "at least 0350 with 31 or 32"),
+        (&["41"], &["0350", "1199"], &["0001", "0349", "1200", "9999"], "0350 to 1199 with 41"),
+        (&["51"], &["1200", "9999"], &["0001", "1199"], "at least 1200 with 51"),
+        (&["63", "71"], &["0001", "0349", "0350", "1199", "1200", "9999"], &[], ""),
+    ] {
+        for tariff in tariffs {
+            for weight in right.iter().chain(&["", "0", "0000"]) {
+                let done = graftspindle(&weighing(tariff, weight), WRITE);
+                assert_eq!((done.status, done.fault.as_str()), (0, ""), "{tariff} {weight}");
+            }
+            for weight in wrong {
+                let at = format!("line 2, weight \"{weight}\", expected in positions 97-100: four digits w");
+                assert_unwritten(&weighing(tariff, weight), WRITE, 61, &[&at, words]);
+            }
+        }
+    }
 }
 
 /// The first account at fault, and of its fields the first one.

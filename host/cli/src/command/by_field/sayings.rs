@@ -148,17 +148,16 @@ pub fn co2(value: &str) -> Option<String> {
     }
 }
 
-/// The first and the last kilogram of a weight code: it counts 10 kg, rounded down. No other place knows this.
-fn kilograms(code: u64) -> (u64, u64) {
-    (10 * code, 10 * code + 9)
+/// The first and the last kilogram that a weight code covers; none where it is missing or no number. No other place knows
+/// this.
+pub fn kilograms(value: &str) -> Option<(u64, u64)> {
+    let code = number(value).filter(|&code| code > 0)?;
+    Some((10 * code + 1, 10 * code + 10))
 }
 
 pub fn weight(value: &str) -> Option<String> {
-    match number(value)? {
-        0 => said("missing"),
-        code => {
-            let (first, last) = kilograms(code);
-            Some(format!("{} to {} kg", thousands(first), thousands(last)))
-        }
+    match kilograms(value) {
+        Some((first, last)) => Some(format!("{} to {} kg", thousands(first), thousands(last))),
+        None => said_if(zeros(value), "missing"),
     }
 }

@@ -83,7 +83,8 @@ pub static FIELDS: [Field; 16] = [
         (97, 100),
         (Right, Zeros),
         "",
-        "four digits, the weight in 10 kg, or nothing where it is missing; not above 0350 with tariff 12 or 22",
+        "four digits w for 10w + 1 to 10w + 10 kg, or nothing where it is missing; at most 0349 with tariff 12 or 22, at least \
+         0350 with 31 or 32, 0350 to 1199 with 41, at least 1200 with 51",
     ),
     field("valid_to", (101, 114), (Stands, Zeros), "", "a real time YYYYMMDDhhmmss, or nothing where there is no end"),
     field(
