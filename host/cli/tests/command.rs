@@ -58,6 +58,8 @@ mod traced;
 mod unwritten;
 #[path = "command/users.rs"]
 mod users;
+#[path = "command/weights.rs"]
+mod weights;
 #[path = "command/words.rs"]
 mod words;
 #[path = "command/writing.rs"]

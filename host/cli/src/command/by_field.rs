@@ -20,6 +20,7 @@ use asked::Asked;
 use graftspindle::sizes::{FOOTER, HEADER, HGV_MOST, LINE, ROW, ROWS_MOST};
 use graftspindle::Verdict;
 use part::Part;
+pub use sayings::kilograms;
 
 pub static EXPLAIN: Command = Command {
     name: "explain",

@@ -6,3 +6,4 @@ pub mod list;
 pub mod new;
 pub mod recover;
 pub mod show;
+mod weights;

@@ -4,6 +4,7 @@ mod accounts;
 mod fault;
 mod fields;
 mod model;
+mod weights;
 
 use std::ffi::OsStr;
 use std::path::Path;
@@ -16,8 +17,10 @@ use super::{clock, hints, input, texts, Answer, Command, Refusal, Told};
 use crate::csv;
 use crate::files::{self, Disk, Place};
 use accounts::Accounts;
+pub use fields::{TARIFF, WEIGHT};
 use graftspindle::sizes::{ROW, ROWS_MOST};
 use graftspindle::{List, NO_LIST};
+pub use weights::Weights;
 
 pub static WRITE: Command = Command {
     name: "write",

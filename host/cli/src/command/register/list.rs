@@ -7,7 +7,7 @@ use crate::command::arguments::Arguments;
 use crate::command::json::Json;
 use crate::command::options::Use::Optional;
 use crate::command::options::AT;
-use crate::command::{beside, clock, look, texts, Answer, Command, Told};
+use crate::command::{beside, clock, look, texts, Answer, Command, Refusal, Told};
 use crate::files::Disk;
 
 pub static LIST: Command = Command {
@@ -21,10 +21,12 @@ Whether one is active is asked for the time, which is UTC and the present one un
     run,
 };
 
-const NAMES: [&str; 9] = ["slot", "actor", "pan", "plate", "nationality", "context_mark", "obe", "end", "active"];
+/// What is told of every record.
+pub const NAMES: [&str; 9] = ["slot", "actor", "pan", "plate", "nationality", "context_mark", "obe", "end", "active"];
 
-fn row(place: usize, slot: &[u8], active: bool) -> [Json; 9] {
-    [
+/// The same of this one.
+pub fn row(place: usize, slot: &[u8], time: &[u8]) -> Result<Vec<Json>, Refusal> {
+    Ok(vec![
         place.into(),
         texts::actor(slot).into(),
         texts::pan(slot).into(),
@@ -33,8 +35,25 @@ fn row(place: usize, slot: &[u8], active: bool) -> [Json; 9] {
         texts::context_mark(slot).into(),
         texts::obe(slot).into(),
         texts::end(slot).into(),
-        active.into(),
-    ]
+        is_active(slot, time).map_err(beside(texts::shown(time)))?.into(),
+    ])
+}
+
+/// Records, each as a row under the names.
+pub struct Table {
+    pub names: Vec<&'static str>,
+    pub rows: Vec<Vec<Json>>,
+}
+
+impl Table {
+    pub fn csv(&self) -> String {
+        self.names.join(",") + "\n" + &self.rows.iter().map(|row| line(row)).collect::<String>()
+    }
+
+    pub fn json(self) -> Json {
+        let object = |row: Vec<Json>| Json::Object(self.names.iter().copied().zip(row).collect());
+        Json::List(self.rows.into_iter().map(object).collect())
+    }
 }
 
 /// No field of a record in order has a comma, a quote or a line end.
@@ -51,11 +70,8 @@ fn run(disk: &dyn Disk, given: &Arguments) -> Answer {
     let (register, name) = (look(disk, Path::new(path))?, Path::new(path).display());
     register.in_order().map_err(beside(name))?;
     let time = given.text_if_given(&AT).map_or_else(clock::now, String::into_bytes);
-    let mut rows = Vec::new();
-    for (place, slot) in register.records().enumerate() {
-        rows.push(row(place, slot, is_active(slot, &time).map_err(beside(texts::shown(&time)))?));
-    }
-    let text = NAMES.join(",") + "\n" + &rows.iter().map(|row| line(row)).collect::<String>();
-    let records = rows.into_iter().map(|row| Json::Object(NAMES.into_iter().zip(row).collect()));
-    Ok(Told::new(text).with("records", Json::List(records.collect())))
+    let rows: Result<_, Refusal> =
+        register.records().enumerate().map(|(place, slot)| row(place, slot, &time)).collect();
+    let table = Table { names: NAMES.to_vec(), rows: rows? };
+    Ok(Told::new(table.csv()).with("records", table.json()))
 }

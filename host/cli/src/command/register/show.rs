@@ -3,21 +3,25 @@
 use std::collections::BTreeMap;
 use std::path::Path;
 
+use super::weights;
 use crate::command::arguments::Arguments;
 use crate::command::json::Json;
 use crate::command::options::Use::Optional;
-use crate::command::options::AT;
+use crate::command::options::{AT, WEIGHTS};
 use crate::command::{beside, clock, look, texts, Answer, Command, Told};
 use crate::files::Disk;
 use graftspindle::{Number, Register};
 
 pub static SHOW: Command = Command {
     name: "register show",
-    options: &[Optional(&AT)],
+    options: &[Optional(&AT), Optional(&WEIGHTS)],
     words: &["R"],
     help: "\
 Counts the records of the register R: for each actor how many are active and how many ended at the time, which is UTC and
-the present one unless it is given; and the free slots.
+the present one unless it is given; and the free slots. With --weights it lists the records whose weight a line of their
+tariff cannot have, which may have been priced in the wrong class: as register list does, with the tariff, the weight code
+and the first and the last kilogram that it covers, and says of how many records these are how many. Such a register is in
+order, and the status is 0.
 ",
     run,
 };
@@ -37,10 +41,17 @@ fn run(disk: &dyn Disk, given: &Arguments) -> Answer {
     let (register, name) = (look(disk, Path::new(path))?, Path::new(path).display());
     register.in_order().map_err(beside(name))?;
     let time = given.text_if_given(&AT).map_or_else(clock::now, String::into_bytes);
+    match given.is_given(&WEIGHTS) {
+        true => weights::told(&register, &time),
+        false => counted(&register, &time),
+    }
+}
+
+fn counted(register: &Register, time: &[u8]) -> Answer {
     let mut actors: BTreeMap<String, (u64, u64)> = BTreeMap::new();
     for slot in register.records() {
         let (active, ended) = actors.entry(texts::actor(slot)).or_default();
-        let counted = if is_active(slot, &time).map_err(beside(texts::shown(&time)))? { active } else { ended };
+        let counted = if is_active(slot, time).map_err(beside(texts::shown(time)))? { active } else { ended };
         *counted += 1;
     }
     let (slots, used) = (register.slots().count(), register.records().count());

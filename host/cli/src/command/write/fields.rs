@@ -50,6 +50,10 @@ const fn field(
 
 /// The PAN.
 pub static PAN: &Field = &FIELDS[0];
+/// The tariff class.
+pub static TARIFF: &Field = &FIELDS[3];
+/// The weight code.
+pub static WEIGHT: &Field = &FIELDS[13];
 
 pub static FIELDS: [Field; 16] = [
     field(
@@ -116,6 +120,11 @@ impl Field {
         let before = FIELDS.iter().take_while(|field| field.name != self.name);
         let from = before.map(Field::width).sum();
         from..from + self.width()
+    }
+
+    /// What stands at its positions in a line or record.
+    pub fn of<'a>(&self, line: &'a [u8]) -> &'a [u8] {
+        &line[self.positions.0 - 1..self.positions.1]
     }
 
     /// Blanks alone are nothing.
