@@ -43,8 +43,9 @@ Writes the accounts of a CSV file as a list of the sender, with a line for each 
 as an incremental list under the same issuer rows it meets none of 25 to 32, and no line breaks a rule of its own. Where that
 cannot be, nothing is written, and the refusal names the line of the CSV file, the field and what was expected. The first
 line of the CSV file names the fields, in any order: --template prints them. It is UTF-8, with commas or semicolons. Zeros in
-front of a number may be missing; class, axles, engine, co2, weight, valid_to and separator may be empty. An HGV that is at
-OUT is replaced; a file of another kind is not. ROWS or the CSV file may be -, standard input.
+front of a number may be missing; class, axles, engine, co2, weight, valid_to and separator may be empty. A weight is a code:
+w stands for 10w + 1 to 10w + 10 kg, so 349 for 3,491 to 3,500 kg. An HGV that is at OUT is replaced; a file of another kind
+is not. ROWS or the CSV file may be -, standard input.
 ",
     run,
 };

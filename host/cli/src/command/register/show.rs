@@ -19,9 +19,9 @@ pub static SHOW: Command = Command {
     help: "\
 Counts the records of the register R: for each actor how many are active and how many ended at the time, which is UTC and
 the present one unless it is given; and the free slots. With --weights it lists the records whose weight a line of their
-tariff cannot have, which may have been priced in the wrong class: as register list does, with the tariff, the weight code
-and the first and the last kilogram that it covers, and says of how many records these are how many. Such a register is in
-order, and the status is 0.
+tariff cannot have, since they may have been priced in the wrong class: as register list does, with the tariff, the weight
+code and the first and the last kilogram that it covers. The last line says how many of how many records these are. The
+status is 0 with such records too.
 ",
     run,
 };
