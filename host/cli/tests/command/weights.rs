@@ -182,6 +182,28 @@ fn as_an_import_judges() {
     );
 }
 
+/// A line that repeats the record is rejected: an incremental list leaves the record, a full one removes it. A line with the
+/// right tariff replaces it.
+#[test]
+fn what_a_list_makes_of_it() {
+    let (light, heavy) = ([("12", "0350"), ("63", "0350")], [("32", "0350"), ("63", "0350")]);
+    let full = IMPORT.replace("incremental", "full");
+    for (pairs, line, rejected, last) in [
+        (light, IMPORT, 1, "listed 1 of 2 records: no line of the tariff can have the weight"),
+        (light, &full, 1, "listed none of 1 record: a line of the tariff can have the weight of each"),
+        (heavy, IMPORT, 0, "listed none of 2 records: a line of the tariff can have the weight of each"),
+        (heavy, &full, 0, "listed none of 2 records: a line of the tariff can have the weight of each"),
+    ] {
+        let folder = holding(&light);
+        let lines: Vec<Vec<u8>> = (0..).zip(pairs).map(|(i, (tariff, weight))| record(i, tariff, weight)).collect();
+        folder.write("hgv", &sample::hgv_of(&lines));
+        let done = graftspindle(&folder, line);
+        let counts = format!("taken {}, rejected {rejected}; ", 2 - rejected);
+        assert!(done.status == 0 && done.said.starts_with(&counts), "{}{}", done.said, done.fault);
+        assert_eq!(said(&folder, SHOW).lines().last(), Some(last));
+    }
+}
+
 #[test]
 fn largest_register() {
     let folder = ready();
