@@ -48,7 +48,7 @@ judged-today f register = refl
 
 module _ (f : Handed) (register : List ℕ) (r : Imported) (b g : List ℕ) (o : Import f register r b g) (z : r .number ≡ 0) where
   -- the HGC is the buffer after the import, cut at the length answered
-  pub hgc-cut : take (r .length) g ≡ confirmed f register
+  hgc-cut : take (r .length) g ≡ confirmed f register
   unfolding success hgcWritten
   hgc-cut = rw (done-is f register r b g o z, hgc-is f register r b g o z) (take-append-seam (confirmed f register) (drop (length (confirmed f register)) (f .hgc)))
 

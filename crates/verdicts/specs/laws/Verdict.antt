@@ -2,10 +2,10 @@
 use mathlib.Core.Path.{_≡_, refl, sym, _∙_}
 use mathlib.Core.Bool.{true, false}
 use mathlib.Core.List.{List, [], _∷_, map}
-use Prim.Native.Nat.{ℕ, _+_, _≤_}
+use Prim.Native.Nat.{ℕ, _+_}
 use lib.ListN.{length}
 use Rattle.theory.specs.First.{_if_, first, choose}
-use Rattle.theory.specs.laws.First.{first-append, first-most, numbered, numberedTo, otherwise, otherwise-none, unchosen}
+use Rattle.theory.specs.laws.First.{first-append, numbered, otherwise, otherwise-none, unchosen}
 use Rattle.theory.specs.Same.{mem}
 use Rattle.theory.specs.Each.{Each}
 use Rattle.theory.specs.Walk.{some}
@@ -43,11 +43,6 @@ module _ (rows from : List ℕ) (R : List (List ℕ)) where
     pub verdict-is : (ts : List (List ℕ)) → verdict rows from R ts l ≡ otherwise (first (ownRules rows from R l)) (choose (some (holdsPan (panOf l)) ts) 1 0)
     unfolding verdict verdictRules first
     verdict-is ts = first-append (ownRules rows from R l) ((1 if some (holdsPan (panOf l)) ts) ∷ []) own-numbered
-
-    -- no reason is above 12
-    pub verdict-most : (ts : List (List ℕ)) → verdict rows from R ts l ≤ 12
-    unfolding verdict verdictRules ownRules lineRules rulesBy numberedTo
-    verdict-most ts = first-most 12 (verdictRules rows from R ts l) refl
 
   -- a taken line breaks none of L1 to L10, no other actor holds its PAN, and no line taken before it has that
   module _ (ts : List (List ℕ)) (l : List ℕ) (v : verdict rows from R ts l ≡ 0) where
