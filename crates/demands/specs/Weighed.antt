@@ -47,10 +47,14 @@ inOrderBefore b = inOrder b && each limitBefore (records b)
 
 -- ---- one import
 
--- L1 to L12, where L10 asks for the vehicle's fields and for this limit
+-- L10 asks for the vehicle's fields and for this limit
+unfoldable pub L10Under : (List ℕ → Bool) → List ℕ → Bool
+L10Under limit l = vehicleHolds l && limit l
+
+-- L1 to L12
 unfoldable pub rulesUnder : (List ℕ → Bool) → List ℕ → List ℕ → List (List ℕ) → List (List ℕ) → List ℕ → List Rule
 rulesUnder limit rows from R earlier l =
-    rulesBy (vehicleHolds l && limit l) rows from l
+    rulesBy (L10Under limit l) rows from l
     ++ (4 if heldByAnother (panOf l) from R)
     ∷ (1 if some (holdsPan (panOf l)) earlier)
     ∷ []

@@ -1,7 +1,7 @@
 -- What the provider's side needs of the verdicts of an accepted file, and that they have it whatever limits of weight judged its lines.
 -- Assumes nothing.
 use mathlib.Core.Path.{_≡_, refl, sym, _∙_}
-use mathlib.Core.Bool.{Bool, true, false, _&&_}
+use mathlib.Core.Bool.{Bool, true, false}
 use mathlib.Core.List.{List, [], _∷_, _++_, map, map-map}
 use Prim.Native.Nat.{ℕ, _≤_}
 use native.Mathlib.Omega.{arith}
@@ -40,7 +40,7 @@ use Rattle.importer.specs.Handed.{Handed}
 use Rattle.importer.specs.laws.Numbers.{Formed}
 use Rattle.pairing.specs.laws.Faithful.{Judges, lines-first}
 use Rattle.receipts.specs.Receipt.{textsOf}
-use Rattle.demands.specs.Weighed.{rulesUnder, verdictUnder, judgedUnder, followingBy}
+use Rattle.demands.specs.Weighed.{L10Under, rulesUnder, verdictUnder, judgedUnder, followingBy}
 use Rattle.demands.specs.laws.Reasons.{named, verdict-named, verdict-most}
 
 -- vs, as the verdicts of a file in form, for which there is room
@@ -91,28 +91,29 @@ lines-made h f =
 module _ (limit : List ℕ → Bool) (rows from : List ℕ) (R : List (List ℕ)) where
   -- L1 to L11
   abbrev own : List ℕ → ℕ
-  own l = first (rulesBy (vehicleHolds l && limit l) rows from l ++ (4 if heldByAnother (panOf l) from R) ∷ [])
+  own l = first (rulesBy (L10Under limit l) rows from l ++ (4 if heldByAnother (panOf l) from R) ∷ [])
 
   -- the line's own fault, and then its PAN among the lines taken before
   judges : Judges own panOf (verdictUnder limit rows from R)
   unfolding Judges holdsPan verdictUnder rulesUnder rulesBy numbered first
   judges ts l =
-      first-append (rulesBy (vehicleHolds l && limit l) rows from l ++ (4 if heldByAnother (panOf l) from R) ∷ []) ((1 if some (holdsPan (panOf l)) ts) ∷ []) refl
+      first-append (rulesBy (L10Under limit l) rows from l ++ (4 if heldByAnother (panOf l) from R) ∷ []) ((1 if some (holdsPan (panOf l)) ts) ∷ []) refl
       ∙ rw (← some-key panOf (panOf l) ts)
 
   -- what a line without fault of its own has
   module _ (l : List ℕ) (e : own l ≡ 0) where
-    parts : (first (rulesBy (vehicleHolds l && limit l) rows from l) ≡ 0) × (choose (heldByAnother (panOf l) from R) 4 0 ≡ 0)
+    parts : (first (rulesBy (L10Under limit l) rows from l) ≡ 0) × (choose (heldByAnother (panOf l) from R) 4 0 ≡ 0)
     unfolding rulesBy numbered first
     parts =
-        otherwise-none (first (rulesBy (vehicleHolds l && limit l) rows from l)) _
-        (sym (first-append (rulesBy (vehicleHolds l && limit l) rows from l) ((4 if heldByAnother (panOf l) from R) ∷ []) refl) ∙ e)
+        otherwise-none (first (rulesBy (L10Under limit l) rows from l)) _
+        (sym (first-append (rulesBy (L10Under limit l) rows from l) ((4 if heldByAnother (panOf l) from R) ∷ []) refl) ∙ e)
 
     own-free : heldByAnother (panOf l) from R ≡ false
     own-free = unchosen _ 3 (parts .1)
 
     own-record : run digit 6 from ≡ true → (L2 from l ≡ true) × (recordHolds l ≡ true)
-    own-record d = passes-record rows from l (vehicleHolds l && limit l) (and-left (vehicleHolds l) (limit l)) d (parts .0)
+    unfolding L10Under
+    own-record d = passes-record rows from l (L10Under limit l) (and-left (vehicleHolds l) (limit l)) d (parts .0)
 
   -- a taken line has no fault of its own, and no line taken before it has its PAN
   module _ (ts : List (List ℕ)) (l : List ℕ) (v : verdictUnder limit rows from R ts l ≡ 0) where

@@ -28,7 +28,7 @@ use Rattle.importer.specs.Import.{judged, following, confirmed, success, regist
 use Rattle.importer.specs.Promises.{Import}
 use Rattle.importer.specs.laws.Numbers.{accepted-clear, accepted-room}
 use Rattle.demands.specs.History.{acceptance}
-use Rattle.demands.specs.Weighed.{limitBefore, inOrderBefore, rulesUnder, verdictUnder, judgedUnder, followingBy, AcceptedUnder, ownCounts, acceptanceBy}
+use Rattle.demands.specs.Weighed.{limitBefore, inOrderBefore, L10Under, rulesUnder, verdictUnder, judgedUnder, followingBy, AcceptedUnder, ownCounts, acceptanceBy}
 use Rattle.demands.specs.laws.Imports.{number-0, done-is, register-is, hgc-is}
 use Rattle.demands.specs.laws.Sound.{Sound, sound}
 use Rattle.demands.specs.laws.Read.{read-answer, read-verdicts}
@@ -43,7 +43,7 @@ accepted-sound limit f register b g a = sound limit f register (clear (f .mode) 
 
 -- the verdicts under today's limits are the import's
 pub judged-today : (f : Handed) (register : List ℕ) → judgedUnder weightHolds f register ≡ judged register (f .rows) (f .hgv)
-unfolding judgedUnder verdictUnder rulesUnder judged fileVerdicts verdictsOf verdict verdictRules ownRules lineRules rulesBy L10
+unfolding judgedUnder verdictUnder rulesUnder L10Under judged fileVerdicts verdictsOf verdict verdictRules ownRules lineRules rulesBy L10
 judged-today f register = refl
 
 module _ (f : Handed) (register : List ℕ) (r : Imported) (b g : List ℕ) (o : Import f register r b g) (z : r .number ≡ 0) where
