@@ -74,7 +74,7 @@ followingBy vs f register = holdings (f .mode) (sender (f .hgv)) (recordOf (f .r
 pub record AcceptedUnder (limit : List ℕ → Bool) (f : Handed) (register b g : List ℕ) : Type 0 where
   pub form : formStop (f .mode) (f .reception) register (f .rows) (f .hgv) ≡ 0
   pub room : length (followingBy (judgedUnder limit f register) f register) ≤ slotsIn register
-  pub left : b ≡ flat (pad slotLength (slotsIn register) (followingBy (judgedUnder limit f register) f register))
+  pub after : b ≡ flat (pad slotLength (slotsIn register) (followingBy (judgedUnder limit f register) f register))
   pub sent-back : g ≡ confirmation (f .reception) (f .hgv) (judgedUnder limit f register)
 
 -- ---- every sequence of them

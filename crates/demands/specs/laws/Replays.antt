@@ -71,20 +71,20 @@ module _ (limit : List ℕ → Bool) (f : Handed) (register b g : List ℕ) (a :
 
   -- the register after it is in order, of as many slots
   after-order : inOrder b ≡ true
-  after-order = rw (a .left) (after-holds f register vs s .order)
+  after-order = rw (a .after) (after-holds f register vs s .order)
 
   after-many : slotsIn b ≡ slotsIn register
-  after-many = rw (a .left) (after-holds f register vs s .many)
+  after-many = rw (a .after) (after-holds f register vs s .many)
 
   -- the copy of another mirrors it as it was
   another-step : (who copy : List ℕ) → eqs (sender (f .hgv)) who ≡ false → Mirrors who register copy → Mirrors who b copy
-  another-step who copy d m = rw (a .left) (another-mirrors f register vs s who copy d m)
+  another-step who copy d m = rw (a .after) (another-mirrors f register vs s who copy d m)
 
   -- the sender's, updated by what was sent back, mirrors it again, and the update answered the import's own counts
   applied-step : (copy : List ℕ) → Mirrors (sender (f .hgv)) register copy → (u : Counted) (c : List ℕ) → Update (sent (f .mode) (f .hgv) g) copy u c
       → Mirrors (sender (f .hgv)) b c × (u ≡ ownCounts vs)
   unfolding Update
-  applied-step copy m u c (x, y) = rw (a .left, x, y, a .sent-back) (update-mirrors f register vs s copy m, update-answer f register vs s copy m)
+  applied-step copy m u c (x, y) = rw (a .after, x, y, a .sent-back) (update-mirrors f register vs s copy m, update-answer f register vs s copy m)
 
 -- ---- every sequence
 

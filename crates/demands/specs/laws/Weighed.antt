@@ -59,7 +59,7 @@ module _ (f : Handed) (register : List ℕ) (r : Imported) (b g : List ℕ) (o :
       record {
         form = clear-none (f .mode) (f .reception) register (f .rows) (f .hgv) (accepted-clear f register e);
         room = rw (judged-today f register) (accepted-room f register e .slots);
-        left = rw (judged-today f register) (register-is f register r b g o z);
+        after = rw (judged-today f register) (register-is f register r b g o z);
         sent-back = rw (judged-today f register) hgc-cut;
       }
 
