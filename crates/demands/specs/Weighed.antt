@@ -30,6 +30,7 @@ use Rattle.verdicts.specs.Verdict.{taken}
 use Rattle.holdings.specs.Holdings.{holdings}
 use Rattle.hgc.specs.Confirmation.{confirmation}
 use Rattle.stops.specs.Stops.{formStop}
+use Rattle.receipts.specs.Receipt.{takenBy, receiptHolds}
 use Rattle.importer.specs.Handed.{Handed}
 use Rattle.provider.specs.declared.Counted.{Counted}
 use Rattle.updating.specs.Sent.{sent}
@@ -41,9 +42,13 @@ use Rattle.demands.specs.History.{apply, Event, empty, _▸_}
 unfoldable pub limitBefore : List ℕ → Bool
 limitBefore l = not (listed 2 (bytes "1222") (tariff l) && ltb 350 (number (weight l)))
 
--- a register in order then: no record in it was over the limit
+-- a register in order then (23): no record in it was over the limit
 unfoldable pub inOrderBefore : List ℕ → Bool
 inOrderBefore b = inOrder b && each limitBefore (records b)
+
+-- an HGC that held beside its HGV then (52): no taken line was over the limit
+unfoldable pub receiptHoldsBefore : List ℕ → List ℕ → Bool
+receiptHoldsBefore h g = receiptHolds h g && each limitBefore (takenBy h g)
 
 -- ---- one import
 

@@ -21,6 +21,7 @@ use Rattle.hgv.specs.Layout.{linesIn}
 use Rattle.sizes.specs.Sizes.{slotLength}
 use Rattle.slots.specs.Slots.{records}
 use Rattle.register.specs.Register.{inOrder}
+use Rattle.receipts.specs.Receipt.{receiptHolds}
 use Rattle.importer.specs.declared.Imported.{Imported}
 use Rattle.importer.specs.Handed.{Handed}
 use Rattle.importer.specs.Promises.{Import}
@@ -29,7 +30,7 @@ use Rattle.reading.specs.Promises.{ReadBack}
 use Rattle.demands.specs.Own.{own}
 use Rattle.demands.specs.History.{Event, his, entries, answers, Replay}
 use Rattle.demands.specs.Verdicts.{Verdicts}
-use Rattle.demands.specs.Weighed.{inOrderBefore, judgedUnder, AcceptedUnder, ownCounts, OursUnder}
+use Rattle.demands.specs.Weighed.{inOrderBefore, receiptHoldsBefore, judgedUnder, AcceptedUnder, ownCounts, OursUnder}
 use Rattle.demands.specs.Demand2.{taken-exactly}
 use Rattle.demands.specs.laws.Weighed as laws
 use Rattle.demands.specs.laws.Replays.{stands-under}
@@ -56,9 +57,12 @@ taken-in-class rows from R ls vs v i l e = laws.faultless-class rows from (getD 
 pub not-judged : (p q : List ℕ) → length p ≡ 96 → (v w : List ℕ) → run digit 4 v ≡ true → run digit 4 w ≡ true → recordHolds (p ++ (v ++ q)) ≡ recordHolds (p ++ (w ++ q))
 not-judged = unweighed
 
--- what was in order before is in order
+-- what was in order before is in order, and an HGC that held beside its HGV holds
 pub still-in-order : (b : List ℕ) → inOrderBefore b ≡ true → inOrder b ≡ true
 still-in-order = laws.order-before
+
+pub still-holds : (h g : List ℕ) → receiptHoldsBefore h g ≡ true → receiptHolds h g ≡ true
+still-holds = laws.receipt-before
 
 -- "Demands 2 and 3 stand with that reading."
 -- They do under any limits of weight, so also for what was accepted under those before. Every accepted import of today is one under today's

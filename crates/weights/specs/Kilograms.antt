@@ -7,8 +7,8 @@ pub record Covers (w kg : ℕ) : Type 0 where
   pub above : 10 * w < kg
   pub most : kg ≤ 10 * w + 10
 
--- a vehicle of so many kilograms is of the tariff's class: 12 and 22 at most 3,500; 31 and 32 above 3,500; 41 above 3,500 up to
--- 12,000; 51 above 12,000; 63 and 71 of any weight
+-- a vehicle of so many kilograms is of the tariff's class (AP-3.1 v3.0, 4.1): 12 and 22 at most 3,500; 31 and 32 above 3,500; 41 above
+-- 3,500 up to 12,000; 51 above 12,000; 63 and 71 of any weight
 pub record InClass (t kg : ℕ) : Type 0 where
   pub of-12 : t ≡ 12 → kg ≤ 3500
   pub of-22 : t ≡ 22 → kg ≤ 3500

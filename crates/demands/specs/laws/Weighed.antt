@@ -20,6 +20,7 @@ use Rattle.reading.specs.Promises.{ReadBack}
 use Rattle.lines.specs.Rules.{L10, rulesBy, lineRules}
 use Rattle.slots.specs.Slots.{records}
 use Rattle.register.specs.Register.{inOrder}
+use Rattle.receipts.specs.Receipt.{takenBy, receiptHolds}
 use Rattle.verdicts.specs.Verdict.{ownRules, verdictRules, verdict, verdictsOf, fileVerdicts}
 use Rattle.stops.specs.laws.Clear.{clear, clear-none}
 use Rattle.importer.specs.declared.Imported.{Imported}
@@ -28,7 +29,7 @@ use Rattle.importer.specs.Import.{judged, following, confirmed, success, regist
 use Rattle.importer.specs.Promises.{Import}
 use Rattle.importer.specs.laws.Numbers.{accepted-clear, accepted-room}
 use Rattle.demands.specs.History.{acceptance}
-use Rattle.demands.specs.Weighed.{limitBefore, inOrderBefore, L10Under, rulesUnder, verdictUnder, judgedUnder, followingBy, AcceptedUnder, ownCounts, acceptanceBy}
+use Rattle.demands.specs.Weighed.{limitBefore, inOrderBefore, receiptHoldsBefore, L10Under, rulesUnder, verdictUnder, judgedUnder, followingBy, AcceptedUnder, ownCounts, acceptanceBy}
 use Rattle.demands.specs.laws.Imports.{number-0, done-is, register-is, hgc-is}
 use Rattle.demands.specs.laws.Sound.{Sound, sound}
 use Rattle.demands.specs.laws.Read.{read-answer, read-verdicts}
@@ -37,6 +38,11 @@ use Rattle.demands.specs.laws.Read.{read-answer, read-verdicts}
 pub order-before : (b : List ℕ) → inOrderBefore b ≡ true → inOrder b ≡ true
 unfolding inOrderBefore
 order-before b = and-left (inOrder b) (each limitBefore (records b))
+
+-- and an HGC that held holds
+pub receipt-before : (h g : List ℕ) → receiptHoldsBefore h g ≡ true → receiptHolds h g ≡ true
+unfolding receiptHoldsBefore
+receipt-before h g = and-left (receiptHolds h g) (each limitBefore (takenBy h g))
 
 pub accepted-sound : (limit : List ℕ → Bool) (f : Handed) (register b g : List ℕ) → AcceptedUnder limit f register b g → Sound f register (judgedUnder limit f register)
 accepted-sound limit f register b g a = sound limit f register (clear (f .mode) (f .reception) register (f .rows) (f .hgv) (a .form)) (a .room)
