@@ -105,7 +105,7 @@ fn are_apart(lines: &[u8], width: usize, marks: &[u8]) -> bool
     ordering::are_apart(lines, pans, marks)
 }
 
-// Has a line the sender for its actor, and keeps it L1, L5 to L10.
+// Has a line the sender for its actor, and keeps it the rules of a record.
 fn line_holds(hgv: &[u8], l: &[u8]) -> bool
     ensures { λ r. ⌜ r ≡ lineHolds (now (hgv .entry)) (now (l .entry)) ⌝ }
 {

@@ -118,7 +118,7 @@ copiesHold h g = sameTexts (left (textsOf h) (copiesOf h g)) (copiesOf h g)
 unfoldable pub countsHold : List ℕ → List ℕ → Bool
 countsHold h g = eqb (number (takenOf g)) (length (takenBy h g)) && eqb (number (rejectedOf g)) (answersIn h g)
 
--- a taken line has the sender for its actor, and keeps L1, L5 to L10
+-- a taken line has the sender for its actor, and keeps L1, L5 to L10, but for the limits of weight
 unfoldable pub lineHolds : List ℕ → List ℕ → Bool
 lineHolds h l = ofActor (sender h) l && recordHolds l
 

@@ -16,7 +16,7 @@ use Rattle.columns.specs.Columns.{panOf}
 use Rattle.lines.specs.Rules.{recordHolds}
 use Rattle.slots.specs.Slots.{slotsIn, slotsOf, marked, records, usedIn}
 
--- a used slot is `1`, 126 bytes as body positions 2-127, LF; six-digit actor, and L1, L5 to L10 hold
+-- a used slot is `1`, 126 bytes as body positions 2-127, LF; six-digit actor, and L1, L5 to L10 hold, but for the limits of weight
 unfoldable pub usedForm : List ℕ → Bool
 usedForm s = marked s && recordHolds s && eqs (field slotEnd slotEnd s) lineEnd
 

@@ -18,6 +18,13 @@ use Rattle.columns.specs.Columns.{weight}
 use Rattle.vehicles.specs.Vehicle.{tariffHolds, classHolds, emissionHolds, productHolds, engineHolds, validToHolds, separatorHolds, fieldsHold, vehicleHolds}
 use Rattle.lines.specs.Rules.{L1, L5, L6, L7, L8, L9, recordHolds}
 
+-- positions from a to b that lie within others, as a test says it
+pub positions-within : (lo hi a b : ℕ) → leb lo a && leb a b && leb b hi ≡ true → (lo ≤ a) × ((a ≤ b) × (b ≤ hi))
+positions-within lo hi a b k =
+    let s = and-split (leb lo a && leb a b) (leb b hi) k in
+    let t = and-split (leb lo a) (leb a b) (s .0) in
+    (leb-true lo a (t .0), (leb-true a b (t .1), leb-true b hi (s .1)))
+
 module _ (l k : List ℕ)
     (front : (a b : ℕ) → leb 2 a && leb a b && leb b 96 ≡ true → field a b k ≡ field a b l)
     (digits : run digit 4 (weight k) ≡ run digit 4 (weight l))
@@ -67,12 +74,7 @@ module _ (l k : List ℕ)
 
 module _ (p q : List ℕ) (n : length p ≡ 96) where
   before : (v : List ℕ) (a b : ℕ) → leb 2 a && leb a b && leb b 96 ≡ true → field a b (p ++ (v ++ q)) ≡ field a b p
-  before v a b k =
-      let s = and-split (leb 2 a && leb a b) (leb b 96) k in
-      let t = and-split (leb 2 a) (leb a b) (s .0) in
-      let x : 2 ≤ a = leb-true 2 a (t .0) in
-      let z : b ≤ 96 = leb-true b 96 (s .1) in
-      field-before a b p (v ++ q) (omega arith) (leb-true a b (t .1)) (omega arith)
+  before v a b k = let s = positions-within 2 96 a b k in field-before a b p (v ++ q) (omega (arith, s .0)) (s .1 .0) (omega (arith, s .1 .1))
 
   behind : (v : List ℕ) → length v ≡ 4 → (a b : ℕ) → 100 < a → field a b (p ++ (v ++ q)) ≡ field (a - 96 - 4) (b - 96 - 4) q
   behind v e a b h = field-behind a b 96 p (v ++ q) n (omega arith) ∙ field-behind (a - 96) (b - 96) 4 v q e (omega arith)
@@ -93,5 +95,4 @@ module _ (p q : List ℕ) (n : length p ≡ 96) where
       (λ a b h. before v a b h ∙ sym (before w a b h))
       (rw (between v m, between w o, d, e))
       (rw (behind v m 101 114 (omega arith), behind w o 101 114 (omega arith)))
-      (λ a b h. let x : 115 ≤ a = leb-true 115 a (and-split (leb 115 a) (leb a b) (and-split (leb 115 a && leb a b) (leb b 127) h .0) .0) in
-      behind v m a b (omega arith) ∙ sym (behind w o a b (omega arith)))
+      (λ a b h. let s = positions-within 115 127 a b h in behind v m a b (omega (arith, s .0)) ∙ sym (behind w o a b (omega (arith, s .0))))

@@ -78,7 +78,7 @@ pub record Held (h g : List ℕ) : Type 0 where
   pub copies : left (textsOf h) (copiesOf h g) ≡ copiesOf h g
   pub taken : number (takenOf g) ≡ length (takenBy h g)
   pub rejected : number (rejectedOf g) ≡ answersIn h g
-  -- of the lines taken: no two have one PAN, each has the sender for its actor, and keeps L1, L5 to L10
+  -- of the lines taken: no two have one PAN, each has the sender for its actor, and keeps the rules of a record
   pub apart : distinct (map panOf (takenBy h g)) ≡ true
   pub own : Each (λ l. ofActor (sender h) l ≡ true) (takenBy h g)
   pub records : Each (λ l. recordHolds l ≡ true) (takenBy h g)

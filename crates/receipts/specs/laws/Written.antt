@@ -78,7 +78,7 @@ unfolding sameTexts
 same-texts [] = refl
 same-texts (x ∷ xs) = rw (eqs-refl x) (same-texts xs)
 
--- of a taken line no more is asked than this: its actor is the sender, and it keeps L1, L5 to L10
+-- of a taken line no more is asked than this: its actor is the sender, and it keeps the rules of a record
 pub line-holds : (h l : List ℕ) → ofActor (sender h) l ≡ true → recordHolds l ≡ true → lineHolds h l ≡ true
 unfolding lineHolds
 line-holds h l = and-both (ofActor (sender h) l) (recordHolds l)

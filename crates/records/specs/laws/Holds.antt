@@ -6,8 +6,7 @@ use Prim.Native.Nat.{ℕ, _≤_}
 use native.Mathlib.Omega.{arith}
 use lib.Dec.{leb}
 use lib.ListN.{length, length-take, length-drop}
-use borrow.Author.Tests.{leb-true}
-use Rattle.theory.specs.laws.Truth.{and-split, or-true, and-right}
+use Rattle.theory.specs.laws.Truth.{or-true, and-right}
 use Rattle.theory.specs.Every.{run}
 use Rattle.theory.specs.laws.Every.{run-length}
 use Rattle.texts.specs.Field.{field}
@@ -21,7 +20,7 @@ use Rattle.vehicles.specs.Vehicle.{validToHolds, vehicleHolds}
 use Rattle.vehicles.specs.laws.Parts.{vehicle-parts}
 use Rattle.lines.specs.Rules.{L1, L5, L6, L7, L8, L9, recordHolds}
 use Rattle.lines.specs.laws.Coverage.{record-plain}
-use Rattle.lines.specs.laws.Agree.{record-agrees}
+use Rattle.lines.specs.laws.Agree.{positions-within, record-agrees}
 use Rattle.lines.specs.End.{endOf, recordOf}
 use Rattle.records.specs.Slot.{lineLeast}
 use Rattle.records.specs.laws.Written.{record-front, record-rest, record-end}
@@ -50,16 +49,13 @@ end-real reception v r h = go (run zeroDigit 14 v) (earlier reception v) refl
 module _ (reception l : List ℕ) (h : recordHolds l ≡ true) (real : realTime reception ≡ true) where
   front : (a b : ℕ) → leb 2 a && leb a b && leb b 96 ≡ true → field a b (recordOf reception l) ≡ field a b l
   front a b k =
-      let s = and-split (leb 2 a && leb a b) (leb b 96) k in
-      let t = and-split (leb 2 a) (leb a b) (s .0) in
-      let z : b ≤ 96 = leb-true b 96 (s .1) in
-      record-front reception l (record-long l h) (real-length reception real) a b (leb-true 2 a (t .0)) (leb-true a b (t .1)) (omega arith)
+      let s = positions-within 2 96 a b k in
+      record-front reception l (record-long l h) (real-length reception real) a b (s .0) (s .1 .0) (omega (arith, s .1 .1))
 
   rest : (a b : ℕ) → leb 115 a && leb a b && leb b 127 ≡ true → field a b (recordOf reception l) ≡ field a b l
   rest a b k =
-      let s = and-split (leb 115 a && leb a b) (leb b 127) k in
-      let t = and-split (leb 115 a) (leb a b) (s .0) in
-      record-rest reception l (record-long l h) (real-length reception real) a b (leb-true 115 a (t .0)) (leb-true a b (t .1)) (leb-true b 127 (s .1))
+      let s = positions-within 115 127 a b k in
+      record-rest reception l (record-long l h) (real-length reception real) a b (s .0) (s .1 .0) (s .1 .1)
 
   digits : run digit 4 (weight (recordOf reception l)) ≡ run digit 4 (weight l)
   digits = rw (record-front reception l (record-long l h) (real-length reception real) 97 100 (omega arith) (omega arith) (omega arith))
