@@ -6,4 +6,5 @@ pub mod Demand1
 pub mod Demand2
 pub mod Demand3
 pub mod Weights
+pub mod Thin
 pub mod laws

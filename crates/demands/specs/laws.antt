@@ -10,3 +10,4 @@ pub mod Weighed
 pub mod Replays
 pub mod Judging
 pub mod Exact
+pub mod Thin

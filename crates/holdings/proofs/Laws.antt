@@ -9,7 +9,7 @@ use lib.ListN.{length, getD}
 use borrow.Author.Tests.{lt-ltb, le-ltb, eq-eqb, ne-eqb}
 use Rattle.theory.specs.Count.{bump}
 use Rattle.theory.specs.laws.Keep.{sift-counts}
-use Rattle.theory.specs.Parts.{partAt}
+use Rattle.theory.specs.Parts.{chop, partAt}
 use Rattle.theory.specs.laws.Parts.{length-chop}
 use Rattle.theory.specs.Pick.{good}
 use Rattle.theory.specs.laws.Pick.{good-no}
@@ -24,9 +24,9 @@ use Rattle.slots.specs.Slots.{slotsIn, slotsOf, records, usedIn, usedPart}
 use Rattle.slots.specs.laws.Slots.{used-slots, slots-used}
 use Rattle.slots.specs.Search.{holdsPan, placeOf, ofActor, countOf}
 use Rattle.taken.specs.Taken.{takenIn}
-use Rattle.holdings.specs.Holdings.{others}
 use Rattle.holdings.specs.Room.{isNew, usedAfter}
 use Rattle.holdings.specs.Places.{placesIn, placesAfter}
+use Rattle.holdings.specs.laws.Room.{used-full}
 use Rattle.holdings.specs.laws.Places.{Told, places-tell, length-places, CountsNew}
 
 -- ---- one line
@@ -80,11 +80,6 @@ pub length-slots : (b : List ℕ) → length (slotsOf b) ≡ slotsIn b
 unfolding slotsOf
 length-slots b = length-chop slotLength (slotsIn b) b
 
--- the others are those that are not his
-others-count : (who : List ℕ) (R : List (List ℕ)) → length (others who R) ≡ length R - countOf who R
-unfolding others countOf
-others-count who R = omega (arith, sift-counts (ofActor who) R)
-
 count-most : (who : List ℕ) (R : List (List ℕ)) → countOf who R ≤ length R
 unfolding countOf
 count-most who R = omega (arith, sift-counts (ofActor who) R)
@@ -107,9 +102,17 @@ module _ (b held : List ℕ) (e : held ≡ usedPart b) where
     -- t lines were taken
     pub full-used : (mode : ℕ) → mode ≡ full → (width : ℕ) (vs lines : List ℕ) (t : ℕ) → t ≡ tally good vs
         → slotsIn held - k + t ≡ usedAfter mode who (records b) (takenIn width vs lines)
-    unfolding usedAfter isFull
     full-used mode m width vs lines t g =
-        sym (rw (eq-eqb mode full m, others-count who (records b), tally-pick good vs _ (sym (length-chop width (length vs) lines)), ← g, ← held-slots, ← f, length-slots held))
+        let his : k ≡ countOf who (records b) = rw (← held-slots) f in
+        omega (
+          arith,
+          his,
+          his-most,
+          held-used,
+          g,
+          used-full mode who (records b) (takenIn width vs lines) m,
+          tally-pick good vs (chop width (length vs) lines) (sym (length-chop width (length vs) lines)),
+        )
 
   module _ (mode : ℕ) (n : mode ≡ full → ⊥) (width : ℕ) (lines vs found : List ℕ) (g : found ≡ placesIn (slotsOf held) width lines vs) where
     -- k lines are new

@@ -1,12 +1,12 @@
 -- What the functions of this crate cite. Assumes nothing.
 use mathlib.Core.Path.{_≡_, sym, _∙_}
-use mathlib.Core.Bool.{true}
+use mathlib.Core.Bool.{Bool, true}
 use mathlib.Core.List.{List, _++_}
 use Prim.Native.Nat.{ℕ, _+_, _-_, _*_, _≤_}
 use native.Mathlib.Omega.{arith}
 use lib.Dec.{ltb}
 use lib.ListN.{length, drop}
-use Rattle.theory.specs.First.{choose, first}
+use Rattle.theory.specs.First.{first}
 use Rattle.theory.specs.Each.{Each}
 use Rattle.theory.specs.Pick.{good, bad}
 use Rattle.theory.specs.Tally.{tally}
@@ -29,14 +29,15 @@ use Rattle.hgc.specs.Confirmation.{confirmation, confirmationLength}
 use Rattle.holdings.specs.Holdings.{holdings}
 use Rattle.holdings.specs.Room.{usedAfter}
 use Rattle.holdings.specs.Places.{placesAfter}
+use Rattle.thinness.specs.Thin.{thin}
 use Rattle.applying.specs.Fit.{Fit, Sought}
 use Rattle.applying.specs.laws.Sought.{NoPlaces, sought}
 use Rattle.hgv.specs.laws.Layout.{is-width, lines-most}
 use Rattle.stops.specs.Stops.{formStop}
 use Rattle.stops.specs.laws.Clear.{clear}
 use Rattle.importer.specs.Handed.{Handed}
-use Rattle.importer.specs.Import.{judged, following, confirmed, roomStops, success, registerWritten, hgcWritten}
-use Rattle.importer.specs.laws.Numbers.{Formed, Room, room-clear}
+use Rattle.importer.specs.Import.{judged, following, confirmed, judgedStops, success, registerWritten, hgcWritten}
+use Rattle.importer.specs.laws.Numbers.{Formed, Passed, judged-passed}
 use Rattle.importer.specs.laws.Accepted.{Accepted, verdict-each, lines-there, verdicts-most, lines-are, lines-hold, lines-made, lines-apart, lines-free, following-used, confirmed-length}
 
 -- vs are the verdicts, and r of them reject their line
@@ -52,23 +53,25 @@ module _ (f : Handed) (register vs : List ℕ) (r : ℕ)
   pub rejected-most : r ≤ linesMost
   rejected-most = omega (arith, e, tallies vs, verdicts-most f register c vs v)
 
-  -- from, ls, w and x are sender, body and width, k the slots that would be used, m the confirmation's length
-  pub room-is : (from ls : List ℕ) → from ≡ sender (f .hgv) → ls ≡ body (f .hgv) → (w : ℕ) → w ≡ widthOf (f .hgv) → (k : ℕ) → k ≡ usedAfter (f .mode) from (records register) (takenIn w vs ls)
-      → (x : ℕ) → x ≡ widthOf (f .hgv) → (m : ℕ) → m ≡ confirmationLength x r → (s t : ℕ) → s ≡ choose (ltb (length (f .hgc)) m) 34 0 → t ≡ choose (ltb (slotsIn register) k) 33 s
-      → t ≡ first (roomStops f register)
-  unfolding roomStops first
-  room-is from ls ef el w ew k ek x ex m em s t es et =
+  -- t is how many were taken
+  pub taken-few : (t : ℕ) → t ≡ tally good vs → t ≤ linesMost
+  taken-few t k = omega (arith, k, tallies vs, verdicts-most f register c vs v)
+
+  -- 35: from is the sender, and b what was answered
+  pub thin-is : (from : List ℕ) → from ≡ sender (f .hgv) → (t : ℕ) → t ≡ tally good vs → (b : Bool) → b ≡ thin (f .mode) from (records register) t
+      → b ≡ thin (f .mode) (sender (f .hgv)) (records register) (tally good (judged register (f .rows) (f .hgv)))
+  thin-is from ef t et b eb = eb ∙ rw (ef, et, v)
+
+  -- 33: from, ls and w are sender, body and width, k the slots that would be used
+  pub slots-are : (from ls : List ℕ) → from ≡ sender (f .hgv) → ls ≡ body (f .hgv) → (w : ℕ) → w ≡ widthOf (f .hgv) → (k : ℕ) → k ≡ usedAfter (f .mode) from (records register) (takenIn w vs ls)
+      → ltb (slotsIn register) k ≡ ltb (slotsIn register) (length (following f register))
+  slots-are from ls ef el w ew k ek =
       let u : k ≡ usedAfter (f .mode) (sender (f .hgv)) (records register) (takenIn (widthOf (f .hgv)) vs (body (f .hgv))) = ek ∙ rw (ef, el, ew) in
-      et
-      ∙ rw (
-        es,
-        u,
-        lines-are f register c vs v,
-        following-used f register c,
-        em,
-        ex,
-        ← confirmed-length f register c vs v r e,
-      )
+      rw (u, lines-are f register c vs v, following-used f register c)
+
+  -- 34: w is the width, and m the confirmation's length
+  pub buffer-is : (w : ℕ) → w ≡ widthOf (f .hgv) → (m : ℕ) → m ≡ confirmationLength w r → ltb (length (f .hgc)) m ≡ ltb (length (f .hgc)) (length (confirmed f register))
+  buffer-is w ew m em = rw (em, ew, ← confirmed-length f register c vs v r e)
 
 -- ---- what is carried out
 
@@ -159,11 +162,11 @@ module _ (f : Handed) (register vs : List ℕ) (c : Formed f register) (v : vs �
 
   -- found₀ is the block before, and `found` what was found
   module _ (found₀ found : List ℕ) (z : NoPlaces found₀) (m : length found₀ ≡ linesIn (f .hgv)) (g : found ≡ placesAfter (f .mode) (records register) (widthOf (f .hgv)) (body (f .hgv)) vs found₀) where
-    pub accepts : (t : ℕ) → t ≡ tally good vs → (s : ℕ) → s ≡ first (roomStops f register) → s ≡ 0
+    pub accepts : (t : ℕ) → t ≡ tally good vs → (s : ℕ) → s ≡ first (judgedStops f register) → s ≡ 0
         → Accepted f register vs t (length vs - t) found
     accepts t e s k y =
-        let room : Room f register = room-clear f register (sym k ∙ y) in
-        record { clear = c; verdicts = v; taken-are = e; rejected-are = rest-rejected vs t e; slots = room .slots; buffer = room .buffer; sought = sought (f .mode) (records register) (widthOf (f .hgv)) (body (f .hgv)) vs found₀ found z (as-many (length found₀) m) g }
+        let passed : Passed f register = judged-passed f register (sym k ∙ y) in
+        record { clear = c; verdicts = v; taken-are = e; rejected-are = rest-rejected vs t e; slots = passed .slots; buffer = passed .buffer; sought = sought (f .mode) (records register) (widthOf (f .hgv)) (body (f .hgv)) vs found₀ found z (as-many (length found₀) m) g }
 
 -- n lines have room in a block for the most that there may be
 pub lines-in-most : (mode : ℕ) (reception register rows h : List ℕ) (s : ℕ) → s ≡ formStop mode reception register rows h → s ≡ 0 → (n : ℕ) → n ≡ linesIn h → n ≤ linesMost

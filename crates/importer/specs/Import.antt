@@ -16,6 +16,7 @@ use Rattle.lines.specs.End.{recordOf}
 use Rattle.slots.specs.Slots.{slotsIn, records}
 use Rattle.verdicts.specs.Verdict.{fileVerdicts, taken}
 use Rattle.hgc.specs.Confirmation.{confirmation}
+use Rattle.thinness.specs.Thin.{thin}
 use Rattle.holdings.specs.Holdings.{holdings}
 use Rattle.stops.specs.Stops.{formStops}
 use Rattle.importer.specs.declared.Imported.{Imported}
@@ -34,16 +35,17 @@ following f register =
 unfoldable pub confirmed : Handed → List ℕ → List ℕ
 confirmed f register = confirmation (f .reception) (f .hgv) (judged register (f .rows) (f .hgv))
 
--- 33 more used slots would follow than there are; 34 HGC buffer too short
-unfoldable pub roomStops : Handed → List ℕ → List Rule
-roomStops f register =
-    (33 if ltb (slotsIn register) (length (following f register)))
+-- 35 a full list that is too thin; 33 more used slots would follow than there are; 34 HGC buffer too short
+unfoldable pub judgedStops : Handed → List ℕ → List Rule
+judgedStops f register =
+    (35 if thin (f .mode) (sender (f .hgv)) (records register) (tally good (judged register (f .rows) (f .hgv))))
+    ∷ (33 if ltb (slotsIn register) (length (following f register)))
     ∷ (34 if ltb (length (f .hgc)) (length (confirmed f register)))
     ∷ []
 
 -- all stops, in their order
 unfoldable pub stops : Handed → List ℕ → List Rule
-stops f register = formStops (f .mode) (f .reception) register (f .rows) (f .hgv) ++ roomStops f register
+stops f register = formStops (f .mode) (f .reception) register (f .rows) (f .hgv) ++ judgedStops f register
 
 -- the number answered: the first that holds, 0 for success
 unfoldable pub importNumber : Handed → List ℕ → ℕ

@@ -1,4 +1,5 @@
 pub mod Accepted
 pub mod Numbers
 pub mod Follows
+pub mod Thin
 pub mod Outcomes

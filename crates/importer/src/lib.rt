@@ -2,14 +2,14 @@
 ghost use mathlib.Core.Path.{_≡_};
 ghost use lib.ListN.{length};
 ghost use Rattle.theory.specs.First.{first};
-ghost use Rattle.theory.specs.Pick.{bad};
+ghost use Rattle.theory.specs.Pick.{good, bad};
 ghost use Rattle.theory.specs.Tally.{tally};
 ghost use Rattle.stops.specs.laws.Clear.{Clear};
 ghost use Rattle.hgv.specs.Layout.{widthOf, linesIn, body};
 ghost use Rattle.slots.specs.Slots.{records};
 ghost use Rattle.holdings.specs.Places.{placesAfter};
 ghost use Rattle.importer.specs.Handed.{handed};
-ghost use Rattle.importer.specs.Import.{judged, roomStops, refusal, success, registerWritten, hgcWritten};
+ghost use Rattle.importer.specs.Import.{judged, judgedStops, refusal, success, registerWritten, hgcWritten};
 ghost use Rattle.applying.specs.laws.Sought.{NoPlaces};
 ghost use Rattle.importer.specs.laws.Accepted.{Accepted};
 ghost use Rattle.importer.specs.Promises.{Import};
@@ -33,8 +33,8 @@ fn refused(number: u64) -> Imported
     }
 }
 
-// Stops 33 and 34; `found` then tells where the taken lines' PANs stand.
-fn room_stop(
+// Stops 35, 33 and 34; `found` then tells where the taken lines' PANs stand.
+fn judged_stop(
     mode: u64,
     reception: &[u8],
     register: &[u8],
@@ -42,14 +42,16 @@ fn room_stop(
     hgv: &[u8],
     hgc: &[u8],
     verdicts: &[u8],
+    taken: u64,
     rejected: u64,
     found: &mut [u16],
 ) -> u64
     requires clear { ⌜ Clear mode (now reception) (now register) (now rows) (now hgv) ⌝ }
     requires verdict { ⌜ now verdicts ≡ judged (now register) (now rows) (now hgv) ⌝ }
-    requires counted { ⌜ rejected ≡ tally bad (now verdicts) ⌝ }
+    requires good { ⌜ taken ≡ tally good (now verdicts) ⌝ }
+    requires bad { ⌜ rejected ≡ tally bad (now verdicts) ⌝ }
     requires many { ⌜ length (now found) ≡ length (now verdicts) ⌝ }
-    ensures stopped { λ r. ⌜ r ≡ first (roomStops (handed mode (now (reception .entry)) (now (rows .entry)) (now (hgv .entry)) (now (hgc .entry))) (now (register .entry))) ⌝ }
+    ensures stopped { λ r. ⌜ r ≡ first (judgedStops (handed mode (now (reception .entry)) (now (rows .entry)) (now (hgv .entry)) (now (hgc .entry))) (now (register .entry))) ⌝ }
     ensures placed { λ _. ⌜ now (found .exit) ≡ placesAfter mode (records (now (register .entry))) (widthOf (now (hgv .entry))) (body (now (hgv .entry))) (now (verdicts .entry)) (now (found .entry)) ⌝ }
 {
     let used = holdings::used_after(
@@ -63,7 +65,9 @@ fn room_stop(
     );
     let length = hgc::length_for(hgv::width(hgv), rejected as usize);
     let s34 = rules::first(hgc.len() < length, 34, 0);
-    rules::first(register.len() / sizes::SLOT < used, 33, s34)
+    let s33 = rules::first(register.len() / sizes::SLOT < used, 33, s34);
+    let thin = thinness::is_thin(mode, register, header::sender(hgv), taken);
+    rules::first(thin, 35, s33)
 }
 
 // The taken lines applied and the confirmation written: nothing can stop it any more.
@@ -123,7 +127,7 @@ fn import_judged(
 {
     let taken = taken::count_taken(verdicts);
     let rejected = verdicts.len() as u64 - taken;
-    let room = room_stop(
+    let stop = judged_stop(
         mode,
         reception,
         register,
@@ -131,11 +135,12 @@ fn import_judged(
         hgv,
         hgc,
         verdicts,
+        taken,
         rejected,
         found,
     );
-    if room != 0 {
-        return refused(room);
+    if stop != 0 {
+        return refused(stop);
     }
     carry_out(
         mode,

@@ -1,4 +1,4 @@
--- What the definitions say of small files, computed: single files, two in a row, and six of two providers with the copy of one,
+-- What the definitions say of small files, computed: single files, two in a row, and seven of two providers with the copy of one,
 -- updated late. Assumes nothing.
 use mathlib.Core.Path.{_≡_, refl}
 use mathlib.Core.Bool.{false}
@@ -47,10 +47,11 @@ use Rattle.verdicts.specs.laws.Verdict.{rejected}
 use Rattle.holdings.specs.Holdings.{storedOn, stored, storedAll, others, replacedAll, holdings}
 use Rattle.sizes.specs.Modes.{isFull}
 use Rattle.holdings.specs.Room.{usedAfter}
+use Rattle.thinness.specs.Thin.{thin}
 use Rattle.stops.specs.Stops.{modeHolds, fullWith220001, addressed, callStops, fileStops, formStops, formStop}
 use Rattle.theory.specs.Stopped.{unlessStopped}
 use Rattle.importer.specs.Handed.{Handed}
-use Rattle.importer.specs.Import.{judged, following, confirmed, roomStops, stops, importNumber, refusal, success, registerAfter, hgcAfter, importAnswer, registerWritten, hgcWritten}
+use Rattle.importer.specs.Import.{judged, following, confirmed, judgedStops, stops, importNumber, refusal, success, registerAfter, hgcAfter, importAnswer, registerWritten, hgcWritten}
 use Rattle.importer.specs.declared.Imported.{Imported}
 use Rattle.pairing.specs.Pairing.{isTaken, marksFrom, marks, left}
 use Rattle.receipts.specs.Receipt.{answersIn, behindHead, answersOf, lengthForm, headForm, answerForm, formHolds, namesHold, outcomeHolds, reasonHolds, textsOf, copiesOf, marksOf, takenBy, sameTexts, copiesHold, countsHold, lineHolds, takenHold, saysHold, linesHold, receiptHolds}
@@ -99,10 +100,10 @@ pub record Single : Type 0 where
   pub ended-register : after (empty 1) (with 1 files.twice) ≡ files.stored
   pub ended-hgc : drop 110 (bufferAfter (empty 1) (with 1 files.twice)) ≡ files.answered ++ files.footer
 
--- ---- six files of two providers, on three slots
+-- ---- seven files of two providers, on three slots
 
--- a faulty line and a right one with its PAN; a line of the other provider; a count that is wrong; the full list, in another order; an
--- account replaced; and one account too many
+-- a faulty line and a right one with its PAN; a line of the other provider; a count that is wrong; the full list, in another order; a full
+-- list without a line; an account replaced; and one account too many
 abbrev pub file₁ : Handed
 file₁ = with 1 (files.file files.one files.double (files.wrong ++ files.line))
 
@@ -116,10 +117,13 @@ abbrev pub file₄ : Handed
 file₄ = with 2 (files.file files.one files.double (files.other ++ files.line))
 
 abbrev pub file₅ : Handed
-file₅ = with 1 (files.file files.one files.single files.replaced)
+file₅ = with 2 files.empty
 
 abbrev pub file₆ : Handed
-file₆ = with 1 (files.file files.one files.single files.third)
+file₆ = with 1 (files.file files.one files.single files.replaced)
+
+abbrev pub file₇ : Handed
+file₇ = with 1 (files.file files.one files.single files.third)
 
 -- the registers between them
 abbrev pub register₁ : List ℕ
@@ -131,8 +135,8 @@ register₂ = files.line ++ files.foreign ++ files.free
 abbrev pub register₄ : List ℕ
 register₄ = files.foreign ++ files.other ++ files.line
 
-abbrev pub register₅ : List ℕ
-register₅ = files.foreign ++ files.other ++ files.replaced
+abbrev pub register₆ : List ℕ
+register₆ = files.foreign ++ files.other ++ files.replaced
 
 -- the HGCs of those accepted
 abbrev pub hgc₁ : List ℕ
@@ -144,10 +148,10 @@ hgc₂ = files.confirmed files.another files.single files.none (bytes "00") []
 abbrev pub hgc₄ : List ℕ
 hgc₄ = files.confirmed files.one files.double files.none (bytes "00") []
 
-abbrev pub hgc₅ : List ℕ
-hgc₅ = files.confirmed files.one files.single files.none (bytes "00") []
+abbrev pub hgc₆ : List ℕ
+hgc₆ = files.confirmed files.one files.single files.none (bytes "00") []
 
-pub record Six : Type 0 where
+pub record Seven : Type 0 where
   pub answer₁ : answerTo (empty 3) file₁ ≡ counts4 0 1 1 304
   pub after₁ : after (empty 3) file₁ ≡ register₁
   pub hgc-is₁ : take 304 (bufferAfter (empty 3) file₁) ≡ hgc₁
@@ -160,12 +164,15 @@ pub record Six : Type 0 where
   pub answer₄ : answerTo register₂ file₄ ≡ counts4 0 2 0 174
   pub after₄ : after register₂ file₄ ≡ register₄
   pub hgc-is₄ : take 174 (bufferAfter register₂ file₄) ≡ hgc₄
-  pub answer₅ : answerTo register₄ file₅ ≡ counts4 0 1 0 174
-  pub after₅ : after register₄ file₅ ≡ register₅
-  pub hgc-is₅ : take 174 (bufferAfter register₄ file₅) ≡ hgc₅
+  -- 35
+  pub answer₅ : answerTo register₄ file₅ ≡ counts4 35 0 0 0
+  pub after₅ : after register₄ file₅ ≡ register₄
+  pub answer₆ : answerTo register₄ file₆ ≡ counts4 0 1 0 174
+  pub after₆ : after register₄ file₆ ≡ register₆
+  pub hgc-is₆ : take 174 (bufferAfter register₄ file₆) ≡ hgc₆
   -- 33
-  pub answer₆ : answerTo register₅ file₆ ≡ counts4 33 0 0 0
-  pub after₆ : after register₅ file₆ ≡ register₅
+  pub answer₇ : answerTo register₆ file₇ ≡ counts4 33 0 0 0
+  pub after₇ : after register₆ file₇ ≡ register₆
 
 -- ---- the copies of the two, updated afterwards
 
@@ -191,7 +198,7 @@ abbrev pub started : List ℕ
 started = empty 3
 
 abbrev pub late : List Sent
-late = sentWith file₁ hgc₁ ∷ sentWith file₄ hgc₄ ∷ sentWith file₅ hgc₅ ∷ []
+late = sentWith file₁ hgc₁ ∷ sentWith file₄ hgc₄ ∷ sentWith file₆ hgc₆ ∷ []
 
 pub record Late : Type 0 where
   pub copy-is : copyBy started late ≡ files.other ++ files.replaced ++ files.free
@@ -202,6 +209,6 @@ pub record Late : Type 0 where
 
 -- ---- computed, by every definition that the contracts reach
 
-pub computed : Single × (Six × Late)
-unfolding takenNext earlier bump distinct all run leading choose first flat onto free pad frontOn front chop good bad pick eqs mem scan tally each some field listed filledTo filled numberAfter number decimal pan doubled addend luhnSum luhn allowed plate nationality separated separator rowHolds rowsHold sentBy rowBegins rowFits known someRowBegins someRowFits daysIn realTime realDate tariffHolds classHolds emissionHolds productHolds engineHolds validToHolds separatorHolds fieldsHold vehicleHolds limits meets meetsEach missing allows weightHolds L10 endOf recordOf L1 L2 L3 L4 L5 L6 L7 nationalityBlank L8 L9 rulesBy lineRules recordHolds starred slotsOf marked usedForm freeForm records usedPart inOrder holdsPan placeOf ofActor holdsForeign heldByAnother countOf widthOf linesIn lengthHolds body linesOf footer footerForm footerHolds framed framesHold sequence previousHolds headerHolds versionHolds incrementalOnly receiverHolds countHolds zeros outcome head answer said answers foot confirmation ownRules verdictRules verdict verdictsOf fileVerdicts taken rejected storedOn stored storedAll others replacedAll isFull holdings usedAfter modeHolds fullWith220001 addressed callStops fileStops formStops formStop judged following confirmed roomStops stops importNumber unlessStopped refusal success registerAfter hgcAfter registerWritten hgcWritten importAnswer empty sift isTaken marksFrom marks left answersIn behindHead answersOf lengthForm headForm answerForm formHolds namesHold outcomeHolds reasonHolds textsOf copiesOf marksOf takenBy sameTexts copiesHold countsHold lineHolds takenHold saysHold linesHold receiptHolds stopCounts successCounts ownHolds copyStops copyFollowing receiptStops updateNumber updateAnswer copyWritten copyAfter count copyBy answersBy
-computed = (record { good-answer = refl; good-register = refl; empty-answer = refl; empty-hgc = refl; bad-answer = refl; bad-hgc = refl; different = refl; first-register = refl; both-register = refl; both-different = refl; ended-register = refl; ended-hgc = refl }, (record { answer₁ = refl; after₁ = refl; hgc-is₁ = refl; answer₂ = refl; after₂ = refl; hgc-is₂ = refl; answer₃ = refl; after₃ = refl; answer₄ = refl; after₄ = refl; hgc-is₄ = refl; answer₅ = refl; after₅ = refl; hgc-is₅ = refl; answer₆ = refl; after₆ = refl }, record { copy-is = refl; answers-are = refl; their-copy = refl; their-answers = refl }))
+pub computed : Single × (Seven × Late)
+unfolding takenNext earlier bump distinct all run leading choose first flat onto free pad frontOn front chop good bad pick eqs mem scan tally each some field listed filledTo filled numberAfter number decimal pan doubled addend luhnSum luhn allowed plate nationality separated separator rowHolds rowsHold sentBy rowBegins rowFits known someRowBegins someRowFits daysIn realTime realDate tariffHolds classHolds emissionHolds productHolds engineHolds validToHolds separatorHolds fieldsHold vehicleHolds limits meets meetsEach missing allows weightHolds L10 endOf recordOf L1 L2 L3 L4 L5 L6 L7 nationalityBlank L8 L9 rulesBy lineRules recordHolds starred slotsOf marked usedForm freeForm records usedPart inOrder holdsPan placeOf ofActor holdsForeign heldByAnother countOf widthOf linesIn lengthHolds body linesOf footer footerForm footerHolds framed framesHold sequence previousHolds headerHolds versionHolds incrementalOnly receiverHolds countHolds zeros outcome head answer said answers foot confirmation ownRules verdictRules verdict verdictsOf fileVerdicts taken rejected storedOn stored storedAll others replacedAll isFull holdings usedAfter modeHolds fullWith220001 addressed callStops fileStops formStops formStop judged following confirmed thin judgedStops stops importNumber unlessStopped refusal success registerAfter hgcAfter registerWritten hgcWritten importAnswer empty sift isTaken marksFrom marks left answersIn behindHead answersOf lengthForm headForm answerForm formHolds namesHold outcomeHolds reasonHolds textsOf copiesOf marksOf takenBy sameTexts copiesHold countsHold lineHolds takenHold saysHold linesHold receiptHolds stopCounts successCounts ownHolds copyStops copyFollowing receiptStops updateNumber updateAnswer copyWritten copyAfter count copyBy answersBy
+computed = (record { good-answer = refl; good-register = refl; empty-answer = refl; empty-hgc = refl; bad-answer = refl; bad-hgc = refl; different = refl; first-register = refl; both-register = refl; both-different = refl; ended-register = refl; ended-hgc = refl }, (record { answer₁ = refl; after₁ = refl; hgc-is₁ = refl; answer₂ = refl; after₂ = refl; hgc-is₂ = refl; answer₃ = refl; after₃ = refl; answer₄ = refl; after₄ = refl; hgc-is₄ = refl; answer₅ = refl; after₅ = refl; answer₆ = refl; after₆ = refl; hgc-is₆ = refl; answer₇ = refl; after₇ = refl }, record { copy-is = refl; answers-are = refl; their-copy = refl; their-answers = refl }))

@@ -1,6 +1,6 @@
--- Six files of two providers: a rejected line, another provider, a refused file, the full list, an account replaced, and a refused
--- file again. The copies are updated afterwards, and hold what we hold for each: so demand 3 speaks of sequences that there are.
--- Assumes nothing.
+-- Seven files of two providers: a rejected line, another provider, a refused file, the full list, a full list that is too thin, an
+-- account replaced, and a refused file again. The copies are updated afterwards, and hold what we hold for each: so demand 3 speaks
+-- of sequences that there are. Assumes nothing.
 use mathlib.Core.Path.{_≡_, refl, sym}
 use mathlib.Core.List.{List, [], _∷_, _++_}
 use Prim.Native.Nat.{ℕ}
@@ -20,10 +20,10 @@ use Rattle.importer.specs.Handed.{Handed}
 use Rattle.demands.specs.History.{apply, Event, acceptance, concerns, his, entries, empty, _▸_, Ours, start, accepted, refused, Replay, applied}
 use Rattle.demands.specs.Demand3.{copy-is}
 use Rattle.witnesses.specs.Files as files
-use Rattle.witnesses.specs.Computed.{answerTo, after, bufferAfter, counts4, file₁, file₂, file₃, file₄, file₅, file₆, register₁, register₂, register₄, register₅, hgc₁, hgc₂, hgc₄, hgc₅, Six, Late, sentWith, copyBy, answersBy, counts3, computed}
+use Rattle.witnesses.specs.Computed.{answerTo, after, bufferAfter, counts4, file₁, file₂, file₃, file₄, file₅, file₆, file₇, register₁, register₂, register₄, register₆, hgc₁, hgc₂, hgc₄, hgc₆, Seven, Late, sentWith, copyBy, answersBy, counts3, computed}
 
-six : Six
-six = computed .1 .0
+seven : Seven
+seven = computed .1 .0
 
 -- an outcome of an import, told by what was computed
 outcome : (f : Handed) (register : List ℕ) (r : Imported) (b : List ℕ) → answerTo register f ≡ r → after register f ≡ b → Import f register r b (bufferAfter register f)
@@ -41,28 +41,29 @@ abbrev events₄ : List Event
 events₄ = events₂ ▸ acceptance file₄ (counts4 0 2 0 174) (bufferAfter register₂ file₄)
 
 abbrev pub events : List Event
-events = events₄ ▸ acceptance file₅ (counts4 0 1 0 174) (bufferAfter register₄ file₅)
+events = events₄ ▸ acceptance file₆ (counts4 0 1 0 174) (bufferAfter register₄ file₆)
 
 -- our side
-pub six-files : Ours 3 register₅ events
-six-files =
+pub seven-files : Ours 3 register₆ events
+seven-files =
     let s₀ : Ours 3 (empty 3) [] = start (omega arith) in
-    let s₁ : Ours 3 register₁ events₁ = accepted s₀ file₁ _ _ _ (outcome file₁ (empty 3) (counts4 0 1 1 304) register₁ (six .answer₁) (six .after₁)) refl in
-    let s₂ : Ours 3 register₂ events₂ = accepted s₁ file₂ _ _ _ (outcome file₂ register₁ (counts4 0 1 0 174) register₂ (six .answer₂) (six .after₂)) refl in
-    let s₃ : Ours 3 register₂ events₂ = refused s₂ file₃ _ _ _ (outcome file₃ register₂ (counts4 30 0 0 0) register₂ (six .answer₃) (six .after₃)) (λ z. omega arith) in
-    let s₄ : Ours 3 register₄ events₄ = accepted s₃ file₄ _ _ _ (outcome file₄ register₂ (counts4 0 2 0 174) register₄ (six .answer₄) (six .after₄)) refl in
-    let s₅ : Ours 3 register₅ events = accepted s₄ file₅ _ _ _ (outcome file₅ register₄ (counts4 0 1 0 174) register₅ (six .answer₅) (six .after₅)) refl in
-    refused s₅ file₆ _ _ _ (outcome file₆ register₅ (counts4 33 0 0 0) register₅ (six .answer₆) (six .after₆)) (λ z. omega arith)
+    let s₁ : Ours 3 register₁ events₁ = accepted s₀ file₁ _ _ _ (outcome file₁ (empty 3) (counts4 0 1 1 304) register₁ (seven .answer₁) (seven .after₁)) refl in
+    let s₂ : Ours 3 register₂ events₂ = accepted s₁ file₂ _ _ _ (outcome file₂ register₁ (counts4 0 1 0 174) register₂ (seven .answer₂) (seven .after₂)) refl in
+    let s₃ : Ours 3 register₂ events₂ = refused s₂ file₃ _ _ _ (outcome file₃ register₂ (counts4 30 0 0 0) register₂ (seven .answer₃) (seven .after₃)) (λ z. omega arith) in
+    let s₄ : Ours 3 register₄ events₄ = accepted s₃ file₄ _ _ _ (outcome file₄ register₂ (counts4 0 2 0 174) register₄ (seven .answer₄) (seven .after₄)) refl in
+    let s₅ : Ours 3 register₄ events₄ = refused s₄ file₅ _ _ _ (outcome file₅ register₄ (counts4 35 0 0 0) register₄ (seven .answer₅) (seven .after₅)) (λ z. omega arith) in
+    let s₆ : Ours 3 register₆ events = accepted s₅ file₆ _ _ _ (outcome file₆ register₄ (counts4 0 1 0 174) register₆ (seven .answer₆) (seven .after₆)) refl in
+    refused s₆ file₇ _ _ _ (outcome file₇ register₆ (counts4 33 0 0 0) register₆ (seven .answer₇) (seven .after₇)) (λ z. omega arith)
 
 -- of it the first provider's, as he applies it late
-his-are : entries (his files.one events) ≡ [] ▸ apply (sentWith file₁ hgc₁) ▸ apply (sentWith file₄ hgc₄) ▸ apply (sentWith file₅ hgc₅)
+his-are : entries (his files.one events) ≡ [] ▸ apply (sentWith file₁ hgc₁) ▸ apply (sentWith file₄ hgc₄) ▸ apply (sentWith file₆ hgc₆)
 unfolding his sift onto concerns acceptance eqs field
-his-are = rw (six .hgc-is₁, six .hgc-is₄, six .hgc-is₅)
+his-are = rw (seven .hgc-is₁, seven .hgc-is₄, seven .hgc-is₆)
 
 -- and the other's
 theirs-are : entries (his files.another events) ≡ [] ▸ apply (sentWith file₂ hgc₂)
 unfolding his sift onto concerns acceptance eqs field
-theirs-are = rw (six .hgc-is₂)
+theirs-are = rw (seven .hgc-is₂)
 
 -- his side, as it was computed
 pub his-copy : Replay 3 (entries (his files.one events)) (files.other ++ files.replaced ++ files.free) (counts3 0 1 0 ∷ counts3 0 2 0 ∷ counts3 0 1 1 ∷ [])
@@ -70,7 +71,7 @@ unfolding Update copyBy answersBy
 his-copy =
     let l : Late = computed .1 .1 in
     rw (his-are, ← l .copy-is, ← l .answers-are)
-    (applied (applied (applied start (sentWith file₁ hgc₁) _ _ (refl, refl)) (sentWith file₄ hgc₄) _ _ (refl, refl)) (sentWith file₅ hgc₅) _ _ (refl, refl))
+    (applied (applied (applied start (sentWith file₁ hgc₁) _ _ (refl, refl)) (sentWith file₄ hgc₄) _ _ (refl, refl)) (sentWith file₆ hgc₆) _ _ (refl, refl))
 
 -- and the other's
 pub their-copy : Replay 3 (entries (his files.another events)) (files.foreign ++ files.free ++ files.free) (counts3 0 1 0 ∷ [])
@@ -80,5 +81,5 @@ their-copy =
     rw (theirs-are, ← l .their-copy, ← l .their-answers) (applied start (sentWith file₂ hgc₂) _ _ (refl, refl))
 
 -- it is what demand 3 says
-pub both-sides : files.other ++ files.replaced ++ files.free ≡ flat (pad slotLength 3 (own files.one (records register₅)))
-both-sides = copy-is six-files files.one his-copy
+pub both-sides : files.other ++ files.replaced ++ files.free ≡ flat (pad slotLength 3 (own files.one (records register₆)))
+both-sides = copy-is seven-files files.one his-copy

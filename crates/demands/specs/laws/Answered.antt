@@ -36,7 +36,7 @@ module _ (h g block : List ℕ) (r : Counted) (v : List ℕ) (o : ReadBack h g b
 -- ---- the update
 
 module _ (s : Sent) (copy : List ℕ) (r : Counted) (c : List ℕ) (o : Update s copy r c) where
-  update-is : r .number ≡ updateNumber s copy
+  pub update-is : r .number ≡ updateNumber s copy
   unfolding Update updateAnswer successCounts stopCounts
   update-is = ap (λ (a : Counted). a .number) (o .0) ∙ number-kept (λ (a : Counted). a .number) (updateNumber s copy) (successCounts (s .hgv) (s .hgc)) (stopCounts (updateNumber s copy)) refl refl
 

@@ -7,7 +7,7 @@ use Rattle.theory.specs.laws.First.{decided, numbered}
 use Rattle.theory.specs.laws.Stopped.{number-kept}
 use Rattle.stops.specs.Stops.{callStops, fileStops, formStops}
 use Rattle.importer.specs.declared.Imported.{Imported}
-use Rattle.importer.specs.Import.{roomStops, stops, importNumber, refusal, success, registerWritten, hgcWritten, importAnswer}
+use Rattle.importer.specs.Import.{judgedStops, stops, importNumber, refusal, success, registerWritten, hgcWritten, importAnswer}
 use Rattle.importer.specs.Promises.{Import}
 use Rattle.importer.specs.laws.Numbers.{stop-answer, stop-register, stop-hgc, done-answer, done-register, done-hgc}
 use Rattle.importer.specs.Handed.{Handed}
@@ -22,7 +22,7 @@ module _ (f : Handed) (register : List ℕ) (r : Imported) (b g : List ℕ) (o :
 
   -- and where it is 0 none does
   pub number-decided : Decided (stops f register) (r .number)
-  unfolding importNumber stops formStops callStops fileStops roomStops numbered
+  unfolding importNumber stops formStops callStops fileStops judgedStops numbered
   number-decided = decided (stops f register) refl (r .number) number-is
 
   -- ---- a stop

@@ -27,7 +27,7 @@ use Rattle.importer.specs.declared.Imported.{Imported}
 use Rattle.importer.specs.Handed.{Handed}
 use Rattle.importer.specs.Import.{judged, following, confirmed, success, registerWritten, hgcWritten}
 use Rattle.importer.specs.Promises.{Import}
-use Rattle.importer.specs.laws.Numbers.{accepted-clear, accepted-room}
+use Rattle.importer.specs.laws.Numbers.{accepted-clear, accepted-passed}
 use Rattle.demands.specs.History.{acceptance}
 use Rattle.demands.specs.Weighed.{limitBefore, inOrderBefore, receiptHoldsBefore, L10Under, rulesUnder, verdictUnder, judgedUnder, followingBy, AcceptedUnder, ownCounts, acceptanceBy}
 use Rattle.demands.specs.laws.Imports.{number-0, done-is, register-is, hgc-is}
@@ -64,7 +64,7 @@ module _ (f : Handed) (register : List ℕ) (r : Imported) (b g : List ℕ) (o :
       let e = number-0 f register r b g o z in
       record {
         form = clear-none (f .mode) (f .reception) register (f .rows) (f .hgv) (accepted-clear f register e);
-        room = rw (judged-today f register) (accepted-room f register e .slots);
+        room = rw (judged-today f register) (accepted-passed f register e .slots);
         after = rw (judged-today f register) (register-is f register r b g o z);
         sent-back = rw (judged-today f register) hgc-cut;
       }

@@ -3,16 +3,25 @@ use mathlib.Core.Path.{_≡_, refl, sym, ap₂, _∙_}
 use mathlib.Core.Bool.{Bool, true, false, cond}
 use mathlib.Core.List.{List, _∷_, _++_, map}
 use Prim.Native.Nat.{ℕ, _+_}
+use native.Mathlib.Omega.{arith}
 use lib.ListN.{length, length-append, length-map}
+use borrow.Author.Tests.{eq-eqb}
 use Rattle.theory.specs.Each.{Each, none, more}
 use Rattle.theory.specs.Keep.{sift}
-use Rattle.theory.specs.laws.Keep.{length-onto}
+use Rattle.theory.specs.laws.Keep.{length-onto, sift-counts}
 use Rattle.theory.specs.Distinct.{distinct}
 use Rattle.columns.specs.Columns.{panOf}
+use Rattle.slots.specs.Search.{ofActor, countOf}
+use Rattle.sizes.specs.Sizes.{full}
 use Rattle.holdings.specs.Holdings.{storedAll, others, replacedAll, holdings}
 use Rattle.sizes.specs.Modes.{isFull}
 use Rattle.holdings.specs.Room.{isNew, usedAfter}
 use Rattle.holdings.specs.laws.Storing.{length-all}
+
+-- full: the sender's records go, and the lines come
+pub used-full : (mode : ℕ) (who : List ℕ) (R ls : List (List ℕ)) → mode ≡ full → usedAfter mode who R ls + countOf who R ≡ length R + length ls
+unfolding usedAfter isFull others countOf
+used-full mode who R ls m = rw (eq-eqb mode full m) (omega (arith, sift-counts (ofActor who) R))
 
 module _ (make : List ℕ → List ℕ) where
   record-pans : {ls : List (List ℕ)} → Each (λ l. panOf (make l) ≡ panOf l) ls → map panOf (map make ls) ≡ map panOf ls

@@ -2,7 +2,7 @@
 use Rattle.importer.specs.Promises.{Import}
 use mathlib.Core.Path.{sym, _∙_}
 use Rattle.importer.specs.Handed.{handed}
-use Rattle.importer.specs.laws.Numbers.{number-room, stop-answer, stop-register, stop-hgc, done-answer, done-register, done-hgc}
+use Rattle.importer.specs.laws.Numbers.{number-judged, stop-answer, stop-register, stop-hgc, done-answer, done-register, done-hgc}
 use Rattle.importer.proofs.Laws.{taken-most, rest-rejected, as-many, accepts}
 use borrow.Author.Needs.{needs}
 use Rattle.importer.proofs.import_judged.Statement.{statement}
@@ -11,19 +11,19 @@ use Rattle.importer.proofs.import_judged.Tie as tie
 sub-rejected : tie.Need-sub-rejected
 sub-rejected c = taken-most _ _ (c .count-taken .ensures)
 
-room-stop-requires : tie.Need-room-stop-requires
-room-stop-requires c κs =
+judged-stop-requires : tie.Need-judged-stop-requires
+judged-stop-requires c κs =
     let a = c .before .before .before .before .before .before .before .before .before .before .before .args in
     let f = handed (a .mode) (a .reception .now) (a .rows .now) (a .hgv .now) (a .hgc .now) in
     let (clear, (verdicts, (many, _))) = c .before .before .before .before .before .before .before .before .before .before .before .pre in
-    (clear, (verdicts, (rest-rejected _ _ (c .before .before .before .count-taken .ensures), as-many f _ _ clear verdicts _ many)))
+    (clear, (verdicts, (c .before .before .before .count-taken .ensures, (rest-rejected _ _ (c .before .before .before .count-taken .ensures), as-many f _ _ clear verdicts _ many))))
 
 returns : tie.Need-returns
 unfolding Import
 returns c =
     let a = c .before .before .before .before .before .before .before .before .before .before .before .before .before .before .before .before .args in
     let f = handed (a .mode) (a .reception .now) (a .rows .now) (a .hgv .now) (a .hgc .now) in
-    let n = number-room f _ (c .before .before .before .before .before .before .before .before .before .before .before .before .before .before .before .before .pre .0) _ (c .before .before .before .before .room-stop .ensures .0) in
+    let n = number-judged f _ (c .before .before .before .before .before .before .before .before .before .before .before .before .before .before .before .before .pre .0) _ (c .before .before .before .before .judged-stop .ensures .0) in
     let k = c .before .if1 .taken in
     (c .refused .ensures ∙ stop-answer f _ _ n k, (stop-register f _ _ n k, stop-hgc f _ _ n k))
 
@@ -32,7 +32,7 @@ carry-out-requires c κs =
     let a = c .before .before .before .before .before .before .before .before .before .before .before .before .before .before .before .before .before .before .args in
     let f = handed (a .mode) (a .reception .now) (a .rows .now) (a .hgv .now) (a .hgc .now) in
     let (clear, (verdicts, (many, none))) = c .before .before .before .before .before .before .before .before .before .before .before .before .before .before .before .before .before .before .pre in
-    let (stopped, placed) = c .before .before .before .before .before .before .room-stop .ensures in
+    let (stopped, placed) = c .before .before .before .before .before .before .judged-stop .ensures in
     accepts f _ _ clear verdicts _ _ none many placed _ (c .before .before .before .before .before .before .before .before .before .before .count-taken .ensures) _ stopped (c .before .before .before .if1 .left)
 
 returns-2 : tie.Need-returns-2
@@ -40,7 +40,7 @@ unfolding Import
 returns-2 c =
     let a = c .before .before .before .before .before .before .before .before .before .before .before .before .before .before .before .before .before .before .before .before .before .before .before .args in
     let f = handed (a .mode) (a .reception .now) (a .rows .now) (a .hgv .now) (a .hgc .now) in
-    let n = sym (number-room f _ (c .before .before .before .before .before .before .before .before .before .before .before .before .before .before .before .before .before .before .before .before .before .before .before .pre .0) _ (c .before .before .before .before .before .before .before .before .before .before .before .room-stop .ensures .0)) ∙ c .before .before .before .before .before .before .before .before .if1 .left in
+    let n = sym (number-judged f _ (c .before .before .before .before .before .before .before .before .before .before .before .before .before .before .before .before .before .before .before .before .before .before .before .pre .0) _ (c .before .before .before .before .before .before .before .before .before .before .before .judged-stop .ensures .0)) ∙ c .before .before .before .before .before .before .before .before .if1 .left in
     let (answered, (stored, confirmed)) = c .before .before .before .before .carry-out .ensures in
     (answered ∙ done-answer f _ n, (stored ∙ done-register f _ n, confirmed ∙ done-hgc f _ n))
 
@@ -50,7 +50,7 @@ import-judged-spec =
     (tie.spec
     (λ c κs. search needs)
     sub-rejected
-    room-stop-requires
+    judged-stop-requires
     (λ c κs. search needs)
     (λ c. search needs)
     (λ c. search needs)

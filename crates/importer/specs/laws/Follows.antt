@@ -26,7 +26,7 @@ use Rattle.applying.specs.laws.Others.{others-stay, places-stay}
 use Rattle.importer.specs.Handed.{Handed}
 use Rattle.importer.specs.Import.{judged, following, importNumber, registerWritten}
 use Rattle.importer.specs.laws.Accepted.{lines-made, lines-his, lines-apart, lines-free}
-use Rattle.importer.specs.laws.Numbers.{Formed, accepted-clear, accepted-room}
+use Rattle.importer.specs.laws.Numbers.{Formed, accepted-clear, accepted-passed}
 
 module _ (f : Handed) (register : List ℕ) (e : importNumber f register ≡ 0) where
   c : Formed f register
@@ -44,7 +44,7 @@ module _ (f : Handed) (register : List ℕ) (e : importNumber f register ≡ 0) 
         made = lines-made f register c;
         apart = lines-apart f register c;
         free = lines-free f register c;
-        room = accepted-room f register e .slots;
+        room = accepted-passed f register e .slots;
       }
 
   -- in order, and the records are those that follow

@@ -1,19 +1,23 @@
 -- What the number answered says: at a stop the counts are zero and every lent byte stays (T4); at 0 nothing stops the
 -- import, and what follows is written. Assumes nothing.
 use mathlib.Core.Path.{_≡_, refl, sym}
-use mathlib.Core.Bool.{true}
+use mathlib.Core.Bool.{true, false}
 use mathlib.Core.List.{List}
 use Prim.Native.Nat.{ℕ, _≤_}
 use lib.ListN.{length}
 use borrow.Author.Tests.{ltb-false}
-use Rattle.theory.specs.First.{None, none, more, first}
-use Rattle.theory.specs.laws.First.{first-clear, numbered}
+use Rattle.theory.specs.First.{None, first}
+use Rattle.theory.specs.laws.First.{first-clear, numbered, fitsAt, none-at}
 use Rattle.theory.specs.laws.Stopped.{at-stop, at-success, by-first, by-second, by-neither}
-use Rattle.slots.specs.Slots.{slotsIn}
+use Rattle.theory.specs.Pick.{good}
+use Rattle.theory.specs.Tally.{tally}
+use Rattle.header.specs.Header.{sender}
+use Rattle.slots.specs.Slots.{slotsIn, records}
+use Rattle.thinness.specs.Thin.{thin}
 use Rattle.stops.specs.Stops.{callStops, fileStops, formStops, formStop}
 use Rattle.stops.specs.laws.Clear.{Clear, clear, clear-none}
 use Rattle.importer.specs.Handed.{Handed}
-use Rattle.importer.specs.Import.{following, confirmed, roomStops, stops, importNumber, refusal, success, registerWritten, hgcWritten, importAnswer, registerAfter, hgcAfter}
+use Rattle.importer.specs.Import.{judged, following, confirmed, judgedStops, stops, importNumber, refusal, success, registerWritten, hgcWritten, importAnswer, registerAfter, hgcAfter}
 
 -- the file's form is right: none of 21 to 32
 abbrev pub Formed : Handed → List ℕ → Type 0
@@ -30,11 +34,11 @@ module _ (f : Handed) (register : List ℕ) where
 
   pub number-form : (n : ℕ) → n ≡ formStop (f .mode) (f .reception) register (f .rows) (f .hgv) → (n ≡ 0 → ⊥) → n ≡ number
   unfolding importNumber stops formStop
-  number-form = by-first (formStops (f .mode) (f .reception) register (f .rows) (f .hgv)) (roomStops f register) forms
+  number-form = by-first (formStops (f .mode) (f .reception) register (f .rows) (f .hgv)) (judgedStops f register) forms
 
-  pub number-room : Formed f register → (n : ℕ) → n ≡ first (roomStops f register) → n ≡ number
+  pub number-judged : Formed f register → (n : ℕ) → n ≡ first (judgedStops f register) → n ≡ number
   unfolding importNumber stops formStop
-  number-room c = by-second (formStops (f .mode) (f .reception) register (f .rows) (f .hgv)) (roomStops f register) forms (clear-none (f .mode) (f .reception) register (f .rows) (f .hgv) c)
+  number-judged c = by-second (formStops (f .mode) (f .reception) register (f .rows) (f .hgv)) (judgedStops f register) forms (clear-none (f .mode) (f .reception) register (f .rows) (f .hgv) c)
 
   -- ---- a stop
 
@@ -66,29 +70,29 @@ module _ (f : Handed) (register : List ℕ) where
     unfolding hgcAfter
     done-hgc = sym (at-success number _ _ e)
 
-  -- there is room for what follows
-  pub record Room : Type 0 where
+  -- none of 35, 33 and 34
+  pub record Passed : Type 0 where
+    pub thick : thin (f .mode) (sender (f .hgv)) (records register) (tally good (judged register (f .rows) (f .hgv))) ≡ false
     pub slots : length (following f register) ≤ slotsIn register
     pub buffer : length (confirmed f register) ≤ length (f .hgc)
 
-  pub room-clear : first (roomStops f register) ≡ 0 → Room
-  unfolding roomStops numbered
-  room-clear e = go (first-clear (roomStops f register) refl e)
-    where
-      go : None (roomStops f register) → Room
-      go (more h₁ (more h₂ none)) =
-          record {
-            slots = ltb-false (slotsIn register) (length (following f register)) h₁;
-            buffer = ltb-false (length (f .hgc)) (length (confirmed f register)) h₂;
-          }
+  pub judged-passed : first (judgedStops f register) ≡ 0 → Passed
+  unfolding judgedStops numbered fitsAt
+  judged-passed e =
+      let none : None (judgedStops f register) = first-clear (judgedStops f register) refl e in
+      record {
+        thick = none-at 35 none;
+        slots = ltb-false (slotsIn register) (length (following f register)) (none-at 33 none);
+        buffer = ltb-false (length (f .hgc)) (length (confirmed f register)) (none-at 34 none);
+      }
 
   -- 0 is answered only where no stop holds
-  neither : number ≡ 0 → (formStop (f .mode) (f .reception) register (f .rows) (f .hgv) ≡ 0) × (first (roomStops f register) ≡ 0)
+  neither : number ≡ 0 → (formStop (f .mode) (f .reception) register (f .rows) (f .hgv) ≡ 0) × (first (judgedStops f register) ≡ 0)
   unfolding importNumber stops formStop
-  neither = by-neither (formStops (f .mode) (f .reception) register (f .rows) (f .hgv)) (roomStops f register) forms
+  neither = by-neither (formStops (f .mode) (f .reception) register (f .rows) (f .hgv)) (judgedStops f register) forms
 
   pub accepted-clear : number ≡ 0 → Formed f register
   accepted-clear e = clear (f .mode) (f .reception) register (f .rows) (f .hgv) (neither e .0)
 
-  pub accepted-room : number ≡ 0 → Room
-  accepted-room e = room-clear (neither e .1)
+  pub accepted-passed : number ≡ 0 → Passed
+  accepted-passed e = judged-passed (neither e .1)

@@ -1,25 +1,25 @@
 -- What any outcome of the writer has: at a refusal no length and every lent byte as it was; at 0 the file, which passes the import's form
 -- and gives back what was given. Assumes nothing.
 use mathlib.Core.Path.{_≡_, refl, sym, ap, _∙_}
-use mathlib.Core.Bool.{Bool, true, false}
+use mathlib.Core.Bool.{true, not}
 use mathlib.Core.List.{List, [], _∷_, map}
 use Prim.Native.Nat.{ℕ, zero, suc, _+_, _≤_, _<_}
 use native.Mathlib.Omega.{arith}
 use lib.Dec.{ltb}
 use lib.ListN.{length, take, getD, length-map}
 use lib.Seq.{take-at}
-use borrow.Author.Tests.{le-ltb, not-false}
+use borrow.Author.Tests.{le-ltb, ltb-true, not-false}
 use Rattle.theory.specs.Text.{bytes}
 use Rattle.theory.specs.First.{None, Decided, first, choose}
 use Rattle.theory.specs.First as rules
-use Rattle.theory.specs.laws.First.{decided, numbered}
+use Rattle.theory.specs.laws.First.{decided, numbered, numberedBy, first-passes}
 use Rattle.theory.specs.laws.Stopped.{at-stop, at-success, number-kept}
 use Rattle.theory.specs.Each.{Each, none, more}
 use Rattle.theory.specs.laws.Each.{each-at, each-of-map}
 use Rattle.theory.specs.laws.Parts.{length-chop}
 use Rattle.theory.specs.Distinct.{distinct}
 use Rattle.theory.specs.Pick.{good, bad, pick}
-use Rattle.theory.specs.laws.Pick.{pick-length}
+use Rattle.theory.specs.laws.Pick.{bad-is, good-no, pick-length}
 use Rattle.theory.specs.Tally.{tally}
 use Rattle.sizes.specs.Sizes.{footerLength, hgcHeaderLength, incremental}
 use Rattle.sizes.specs.Modes.{isFull}
@@ -39,13 +39,14 @@ use Rattle.slots.specs.Search.{heldByAnother}
 use Rattle.register.specs.Register.{inOrder}
 use Rattle.verdicts.specs.Verdict.{fileVerdicts, taken}
 use Rattle.holdings.specs.Holdings.{holdings}
+use Rattle.thinness.specs.laws.Thin.{incremental-thick}
 use Rattle.hgc.specs.laws.Confirmation.{length-confirmation}
 use Rattle.importer.specs.declared.Imported.{Imported}
 use Rattle.importer.specs.Handed.{Handed, handed}
-use Rattle.importer.specs.Import.{judged, following, confirmed, roomStops, success}
+use Rattle.importer.specs.Import.{judged, following, confirmed, judgedStops, success}
 use Rattle.importer.specs.Promises.{Import}
 use Rattle.stops.specs.laws.Clear.{Clear}
-use Rattle.importer.specs.laws.Numbers.{number-room}
+use Rattle.importer.specs.laws.Numbers.{number-judged}
 use Rattle.demands.specs.Verdicts.{Verdicts}
 use Rattle.demands.specs.laws.Judging.{verdicts-there}
 use Rattle.demands.specs.laws.Imports as imports
@@ -167,17 +168,14 @@ module _ (g : Given) (out : List ℕ) (w : Written) (after : List ℕ) (o : Writ
       formed : Clear incremental reception register (g .rows) list
       formed = rw list-is (form.passes g given-kept reception register real ordered)
 
-      room-number : r .number ≡ first (roomStops f register)
-      room-number = imports.number-is f register r b c i ∙ sym (number-room f register formed (first (roomStops f register)) refl)
+      judged-number : r .number ≡ first (judgedStops f register)
+      judged-number = imports.number-is f register r b c i ∙ sym (number-judged f register formed (first (judgedStops f register)) refl)
 
       pub passes : (m : ℕ) → 21 ≤ m → m ≤ 32 → r .number ≡ m → ⊥
-      unfolding roomStops first choose
-      passes m a d e = go (ltb (slotsIn register) (length (following f register))) (ltb (length hgc) (length (confirmed f register))) (sym e ∙ room-number)
-        where
-          go : (s t : Bool) → m ≡ choose s 33 (choose t 34 0) → ⊥
-          go true t q = omega arith
-          go false true q = omega arith
-          go false false q = omega arith
+      unfolding judgedStops numberedBy
+      passes m a d e =
+          let n : first (judgedStops f register) ≡ m = sym judged-number ∙ e in
+          omega (arith, ltb-true 32 (first (judgedStops f register)) (first-passes (λ k. ltb 32 k) (judgedStops f register) refl (rw n (bad-is m ∙ ap not (good-no m (λ z. omega arith))))))
 
       module _ (bare : records register ≡ []) (room : n ≤ slotsIn register) (space : hgcHeaderLength + footerLength ≤ length hgc) where
         abbrev vs : List ℕ
@@ -212,8 +210,8 @@ module _ (g : Given) (out : List ℕ) (w : Written) (after : List ℕ) (o : Writ
             ))
 
         number-none : r .number ≡ 0
-        unfolding roomStops first choose
-        number-none = room-number ∙ rw (le-ltb (slotsIn register) (length (following f register)) length-following, le-ltb (length hgc) (length (confirmed f register)) (omega (arith, length-confirmed)))
+        unfolding judgedStops first choose
+        number-none = judged-number ∙ rw (incremental-thick incremental (sender list) (records register) (tally good vs) (λ i. omega arith), le-ltb (slotsIn register) (length (following f register)) length-following, le-ltb (length hgc) (length (confirmed f register)) (omega (arith, length-confirmed)))
 
         pub all-taken : r ≡ record { number = 0; taken = n; rejected = 0; length = hgcHeaderLength + footerLength }
         unfolding success

@@ -4,8 +4,8 @@ use mathlib.Core.Bool.{true, false}
 use mathlib.Core.List.{List}
 use Prim.Native.Nat.{ℕ}
 use borrow.Author.Tests.{not-false}
-use Rattle.theory.specs.First.{None, none, more, first, choose}
-use Rattle.theory.specs.laws.First.{first-clear, numbered}
+use Rattle.theory.specs.First.{None, first, choose}
+use Rattle.theory.specs.laws.First.{first-clear, numbered, fitsAt, none-at}
 use Rattle.times.specs.Time.{realTime}
 use Rattle.issuers.specs.Rows.{rowsHold}
 use Rattle.hgv.specs.Layout.{lengthHolds}
@@ -31,25 +31,23 @@ pub record Clear (mode : ℕ) (reception register b h : List ℕ) : Type 0 where
 
 module _ (mode : ℕ) (reception register b h : List ℕ) where
   pub clear : formStop mode reception register b h ≡ 0 → Clear mode reception register b h
-  unfolding formStop formStops callStops fileStops numbered
-  clear e = go (first-clear (formStops mode reception register b h) refl e)
-    where
-      go : None (formStops mode reception register b h) → Clear mode reception register b h
-      go (more h₁ (more h₂ (more h₃ (more h₄ (more h₅ (more h₆ (more h₇ (more h₈ (more h₉ (more h₀ (more k₁ (more k₂ none)))))))))))) =
-          record {
-            moded = not-false (modeHolds mode) h₁;
-            received = not-false (realTime reception) h₂;
-            ordered = not-false (inOrder register) h₃;
-            rowed = not-false (rowsHold b) h₄;
-            sized = not-false (lengthHolds h) h₅;
-            headed = not-false (headerHolds h) h₆;
-            versioned = not-false (versionHolds h) h₇;
-            fitting = h₈;
-            sent = not-false (addressed b h) h₉;
-            counted = not-false (countHolds h) h₀;
-            footed = not-false (footerHolds h) k₁;
-            framed = not-false (framesHold h) k₂;
-          }
+  unfolding formStop formStops callStops fileStops numbered fitsAt
+  clear e =
+      let none : None (formStops mode reception register b h) = first-clear (formStops mode reception register b h) refl e in
+      record {
+        moded = not-false (modeHolds mode) (none-at 21 none);
+        received = not-false (realTime reception) (none-at 22 none);
+        ordered = not-false (inOrder register) (none-at 23 none);
+        rowed = not-false (rowsHold b) (none-at 24 none);
+        sized = not-false (lengthHolds h) (none-at 25 none);
+        headed = not-false (headerHolds h) (none-at 26 none);
+        versioned = not-false (versionHolds h) (none-at 27 none);
+        fitting = none-at 28 none;
+        sent = not-false (addressed b h) (none-at 29 none);
+        counted = not-false (countHolds h) (none-at 30 none);
+        footed = not-false (footerHolds h) (none-at 31 none);
+        framed = not-false (framesHold h) (none-at 32 none);
+      }
 
   -- and only then
   pub clear-none : Clear mode reception register b h → formStop mode reception register b h ≡ 0

@@ -1,11 +1,11 @@
 -- Laws of rules with numbers, in an order: where none fits, which is the first, and rules behind rules. Assumes
 -- nothing.
 use mathlib.Core.Path.{_≡_, refl, sym, ap, _∙_}
-use mathlib.Core.Bool.{Bool, true, false, _&&_, false≢true}
+use mathlib.Core.Bool.{Bool, true, false, cond, _&&_, false≢true}
 use mathlib.Core.List.{List, [], _∷_, _++_}
 use Prim.Native.Nat.{ℕ, zero, suc, _≤_, _<_}
 use native.Mathlib.Omega.{arith}
-use lib.Dec.{leb, ltb}
+use lib.Dec.{eqb, leb, ltb}
 use borrow.Author.Tests.{leb-true, ltb-true}
 use Rattle.theory.specs.laws.Truth.{and-left, and-right}
 use Rattle.theory.specs.Pick.{bad}
@@ -50,6 +50,20 @@ first-clear (r ∷ rs) n h =
     go : (b : Bool) → r .fits ≡ b → choose b (r .number) (first rs) ≡ 0 → (first rs ≡ 0 → None rs) → 0 < r .number → None (r ∷ rs)
     go true e k ih p = absurd (omega arith)
     go false e k ih p = more e (ih k)
+
+-- does the rule with this number fit: so a law that wants one rule of a list names it, and not its place
+unfoldable pub fitsAt : ℕ → List Rule → Bool
+fitsAt n [] = false
+fitsAt n (r ∷ rs) = cond (eqb (r .number) n) (r .fits) (fitsAt n rs)
+
+pub none-at : (n : ℕ) {rs : List Rule} → None rs → fitsAt n rs ≡ false
+unfolding fitsAt
+none-at n none = refl
+none-at n (more {r = r} {rs = rs} h hs) = go (eqb (r .number) n) (none-at n hs)
+  where
+    go : (b : Bool) → fitsAt n rs ≡ false → cond b (r .fits) (fitsAt n rs) ≡ false
+    go true k = h
+    go false k = k
 
 pub first-fits : (rs : List Rule) (k : ℕ) → first rs ≡ k → (k ≡ 0 → ⊥) → Fits k rs
 unfolding first choose

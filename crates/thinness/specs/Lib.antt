@@ -1,0 +1,3 @@
+pub mod Thin
+pub mod Promises
+pub mod laws
