@@ -60,7 +60,7 @@ pub fn import(mode: u64, reception: &[u8], register: &mut [u8], rows: &[u8], hgv
     let verdicts = verdicts(&lines, sender, rows, &register::used_slots(register));
     let taken = verdict::taken_lines(&lines, &verdicts);
     let after = after(mode, register, sender, &taken, reception, after_mode_1);
-    finish_import(reception, register, hgv, hgc, &verdicts, &after)
+    finish_import(mode, reception, register, hgv, hgc, &verdicts, &after)
 }
 
 pub fn by_pan(register: &[u8], pan: &[u8]) -> (u64, Range<usize>) {

@@ -17,6 +17,7 @@ numbered! {
         32 Frame "a line of the HGV lacks 1 in front or LF at its end, or has a byte below 32"
         33 Slots "more used slots would follow than there are"
         34 HgcBuffer "the buffer for the HGC is too short"
+        35 ThinList "twice the lines taken are fewer than the records held for the sender"
         40 Key "the key breaks its form"
         41 NoRecord "no record fits"
         42 SeveralRecords "more than one active record fits"

@@ -2,7 +2,7 @@
 
 use super::register::{self, after, in_order, InOrder};
 use super::words::is_real_time;
-use super::{confirmation, hgv, rows, verdict};
+use super::{confirmation, hgv, line, rows, verdict};
 use graftspindle::raw::Imported;
 
 /// A stop returns its number and zero for the rest.
@@ -64,11 +64,19 @@ pub fn import(mode: u64, reception: &[u8], register: &mut [u8], rows: &[u8], hgv
     let verdicts = verdict::verdicts(&lines, &rules);
     let taken = verdict::taken_lines(&lines, &verdicts);
     let after = after(mode, register, sender, &taken, reception, register::after_mode_1);
-    finish_import(reception, register, hgv, hgc, &verdicts, &after)
+    finish_import(mode, reception, register, hgv, hgc, &verdicts, &after)
 }
 
-/// 33 and 34 are known before the first byte is written.
+/// 35: "In mode 2, if twice the taken lines is less than the records held for the sender, stop." Held is what the register
+/// has before the file, ended records too.
+fn is_35(mode: u64, register: &[u8], sender: &[u8], taken: usize) -> bool {
+    let held = register::used_slots(register).iter().filter(|slot| line::actor(slot) == sender).count();
+    mode == 2 && 2 * taken < held
+}
+
+/// 35, 33 and 34, in this order, are known before the first byte is written.
 pub fn finish_import(
+    mode: u64,
     reception: &[u8],
     register: &mut [u8],
     hgv: &[u8],
@@ -76,6 +84,10 @@ pub fn finish_import(
     verdicts: &[u8],
     after: &[Vec<u8>],
 ) -> Imported {
+    let taken = verdicts.iter().filter(|&&v| v == 0).count();
+    if is_35(mode, register, hgv::sender(hgv), taken) {
+        return import_stopped(35);
+    }
     if register::is_33(register, after) {
         return import_stopped(33);
     }
@@ -85,6 +97,6 @@ pub fn finish_import(
     }
     register::write(register, after);
     hgc[..confirmation.len()].copy_from_slice(&confirmation);
-    let taken = verdicts.iter().filter(|&&v| v == 0).count() as u64;
-    Imported { number: 0, taken, rejected: verdicts.len() as u64 - taken, length: confirmation.len() as u64 }
+    let rejected = verdicts.len() - taken;
+    Imported { number: 0, taken: taken as u64, rejected: rejected as u64, length: confirmation.len() as u64 }
 }
