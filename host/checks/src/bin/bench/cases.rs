@@ -28,6 +28,11 @@ fn full(size: usize) -> Vec<u8> {
     (0..size).map(sample::line).collect::<String>().into_bytes()
 }
 
+/// A full list of rejected lines stops at 35 where the sender has records.
+fn full_of_another(size: usize) -> Vec<u8> {
+    (0..size).map(|i| sample::line(i).replacen("900123", "900124", 1)).collect::<String>().into_bytes()
+}
+
 /// Every second line is faulty.
 fn mixed_line(i: usize) -> String {
     if i.is_multiple_of(2) {
@@ -48,7 +53,7 @@ fn imports(size: usize) -> Vec<Case> {
     let kinds: [(&str, Vec<u8>, Lines, u64); 3] = [
         ("new lines, free register", free(size), sample::line, 0),
         ("held lines, full register", full(size), sample::line, 0),
-        ("rejected lines, full register", full(size), sample::faulty_line, n),
+        ("rejected lines, full register", full_of_another(size), sample::faulty_line, n),
     ];
     let case = |(kind, register, line, rejected): &(&str, Vec<u8>, Lines, u64), mode| Case {
         name: format!("import, {kind}, mode {mode}"),
