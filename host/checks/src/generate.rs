@@ -3,6 +3,7 @@
 pub mod case;
 pub mod damage;
 pub mod file;
+pub mod full;
 pub mod giving;
 pub mod giving_faults;
 pub mod large;

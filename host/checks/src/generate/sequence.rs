@@ -3,9 +3,11 @@
 use super::case::lines;
 use super::damage::{change_one_byte, wrong_mode, wrong_time};
 use super::file::{header, hgv, records, register};
+use super::full::{full_list, pans_of};
 use super::line::reception;
 use super::rng::Rng;
 use super::world::World;
+use crate::plain;
 
 #[derive(Debug, Clone, PartialEq, Eq)]
 pub struct Event {
@@ -16,7 +18,8 @@ pub struct Event {
     pub hgc_len: usize,
 }
 
-fn event(rng: &mut Rng, world: &World) -> Event {
+/// A full list of a sender who has records has mostly their accounts, or some of them.
+fn event(rng: &mut Rng, world: &World, register: &[u8]) -> Event {
     let sender = world.actor(rng);
     let reception = reception(rng);
     let mut header = header(rng, &sender);
@@ -24,7 +27,10 @@ fn event(rng: &mut Rng, world: &World) -> Event {
     if mode == 2 && !rng.one_in(10) {
         header.version = b"120001".to_vec();
     }
-    let lines = lines(rng, world, &sender, &reception, 7);
+    let lines = match mode == 2 && pans_of(register, &sender).len() > 1 && !rng.one_in(3) {
+        true => full_list(rng, world, &sender, &reception, register),
+        false => lines(rng, world, &sender, &reception, 7),
+    };
     let hgc_len = 174 + 130 * lines.len();
     Event { mode, reception, rows: world.bytes(), hgv: hgv(&header, &lines), hgc_len }
 }
@@ -55,12 +61,14 @@ pub fn start(seed: u64) -> Vec<u8> {
 pub fn sequence(seed: u64) -> Vec<Event> {
     let mut rng = Rng::new(seed);
     let mut world = World::new(&mut rng);
-    let mut events = Vec::new();
+    let (mut events, mut register) = (Vec::new(), start(seed));
     for _ in 0..rng.between(1, 14) {
-        let mut event = event(&mut rng, &world);
+        let mut event = event(&mut rng, &world, &register);
         if rng.one_in(6) {
             spoil(&mut rng, &mut event);
         }
+        let Event { mode, reception, rows, hgv, hgc_len } = &event;
+        plain::import(*mode, reception, &mut register, rows, hgv, &mut vec![0; *hgc_len]);
         events.push(event);
         if rng.one_in(8) && world.rows.len() > 1 {
             let gone = rng.below(world.rows.len());
