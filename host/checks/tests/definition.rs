@@ -26,6 +26,8 @@ mod provider;
 mod registers;
 #[path = "definition/size.rs"]
 mod size;
+#[path = "definition/thin.rs"]
+mod thin;
 #[path = "definition/vectors.rs"]
 mod vectors;
 #[path = "definition/writing.rs"]

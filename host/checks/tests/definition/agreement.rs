@@ -30,7 +30,7 @@ fn imports() {
         let broken = rules_broken(&case.register, &case.rows, &case.hgv);
         broken.into_iter().for_each(|rule| count(&mut rules, rule));
     }
-    assert_reached("import's numbers", &numbers, (21..=34).chain([0]).collect());
+    assert_reached("import's numbers", &numbers, (21..=35).chain([0]).collect());
     assert_reached("verdicts", &reasons, vec![0, 1, 2, 3, 4, 5, 6, 8, 9, 12]);
     assert_reached("rules L1 to L12", &rules, (0..=12).collect());
     assert_reached("registers with a record over a limit of weight", &heavy, vec![false, true]);
@@ -76,7 +76,7 @@ fn reading_back() {
 
 #[test]
 fn updates() {
-    let (mut numbers, mut alone, mut heavy) = (Counts::new(), Counts::new(), Counts::new());
+    let (mut numbers, mut alone, mut heavy, mut thin) = (Counts::new(), Counts::new(), Counts::new(), Counts::new());
     for seed in 0..SEEDS {
         let p = pair(seed);
         let (answer, after) = of_all(|engine| {
@@ -89,21 +89,18 @@ fn updates() {
         if let (52, [clause]) = (answer.number, &clauses_of_52(&p.hgv, &p.hgc)[..]) {
             count(&mut alone, *clause);
         }
+        if (p.mode, answer.number) == (2, 0) {
+            let held = p.copy.chunks(128).filter(|slot| slot[0] == b'1').count() as u64;
+            count(&mut thin, 2 * answer.taken < held);
+        }
         let stood = |slot: &[u8]| p.copy.chunks(128).any(|before| before == slot);
         count(&mut heavy, after.chunks_exact(128).any(|slot| over_limit(slot) && !stood(slot)));
     }
     assert_reached("updates by a line over a limit of weight", &heavy, vec![false, true]);
+    assert_reached("full lists applied, too thin for an import", &thin, vec![false, true]);
     let expected = vec![0, 21, 23, 25, 26, 27, 28, 29, 30, 31, 32, 33, 51, 52];
     assert_reached("update's numbers", &numbers, expected);
     assert_reached("update's clauses of 52, alone", &alone, CLAUSES.to_vec());
-}
-
-/// The used slots of an actor, in order, then free ones: what his copy must be.
-fn copy_expected(register: &[u8], actor: &[u8]) -> Vec<u8> {
-    let own = register.chunks(128).filter(|slot| slot[0] == b'1' && &slot[1..7] == actor);
-    let mut expected: Vec<u8> = own.flatten().copied().collect();
-    expected.resize(register.len(), 0);
-    expected
 }
 
 fn import_event(engine: &Engine, register: &[u8], event: &Event) -> Outcome {
@@ -143,15 +140,28 @@ fn follow(engine: &Engine, seed: u64) -> Left {
     (outcomes, copies)
 }
 
+/// How many imports stop with 35 that have an accepted one of the same sender before them and another behind them.
+fn thin_between(events: &[Event], outcomes: &[Outcome]) -> u64 {
+    let told = |(event, outcome): (&Event, &Outcome)| (event.hgv[1..7].to_vec(), outcome.answer.number);
+    let told: Vec<(Vec<u8>, u64)> = events.iter().zip(outcomes).map(told).collect();
+    let is_between = |(at, (sender, number)): &(usize, &(Vec<u8>, u64))| {
+        let accepted = (sender.clone(), 0);
+        *number == 35 && told[..*at].contains(&accepted) && told[at + 1..].contains(&accepted)
+    };
+    told.iter().enumerate().filter(is_between).count() as u64
+}
+
 #[test]
 fn sequences() {
-    let (mut numbers, mut heavy) = (Counts::new(), Counts::new());
+    let (mut numbers, mut heavy, mut between) = (Counts::new(), Counts::new(), 0);
     for seed in 0..SEQUENCES {
         let (outcomes, copies) = of_all(|engine| follow(engine, seed));
+        between += thin_between(&sequence(seed), &outcomes);
         outcomes.iter().for_each(|outcome| count(&mut numbers, outcome.answer.number));
         copies.values().for_each(|copy| count(&mut heavy, copy.chunks(128).any(over_limit)));
     }
-    println!("sequences' numbers: {numbers:?}");
+    println!("sequences' numbers: {numbers:?}, {between} of 35 between accepted lists of the sender");
     assert_reached("copies with a record over a limit of weight", &heavy, vec![false, true]);
-    assert!([0, 21, 22, 24, 28, 33, 34].iter().all(|number| numbers[number] >= 10));
+    assert!([0, 21, 22, 24, 28, 33, 34, 35].iter().all(|number| numbers[number] >= 10));
+    assert!(between >= 200, "{between}");
 }

@@ -50,6 +50,14 @@ pub fn free(k: usize) -> Vec<u8> {
     vec![0; 128 * k]
 }
 
+/// The used slots of an actor, in order, then free ones: what his copy must be.
+pub fn copy_expected(register: &[u8], actor: &[u8]) -> Vec<u8> {
+    let own = register.chunks(128).filter(|slot| slot[0] == b'1' && &slot[1..7] == actor);
+    let mut expected: Vec<u8> = own.flatten().copied().collect();
+    expected.resize(register.len(), 0);
+    expected
+}
+
 pub fn footer() -> Vec<u8> {
     [&b"2"[..], &[b'0'; 62], b"\n"].concat()
 }

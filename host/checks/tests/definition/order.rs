@@ -25,6 +25,11 @@ fn right(room: usize) -> Input {
     }
 }
 
+/// Of three records one line is too thin.
+fn three_held() -> Vec<u8> {
+    [x(), y(), with(LINE0, 14, b"9799001200000028")].concat()
+}
+
 fn apply(number: u64, input: &mut Input) {
     match number {
         21 => input.mode = 3,
@@ -41,6 +46,7 @@ fn apply(number: u64, input: &mut Input) {
         32 => input.hgv[128] = b'2',
         33 => input.register.clear(),
         34 | 53 => input.room -= 1,
+        35 => (input.mode, input.register) = (2, three_held()),
         51 => input.register = with(&y(), 2, b"900124"),
         52 => input.hgc.push(b'0'),
         _ => unreachable!(),
@@ -64,7 +70,7 @@ fn assert_order(order: &[u64], room: usize, answer: impl Fn(Input) -> u64) {
 
 #[test]
 fn import_order() {
-    let order = [21, 22, 23, 24, 25, 26, 27, 28, 29, 30, 31, 32, 33, 34];
+    let order = [21, 22, 23, 24, 25, 26, 27, 28, 29, 30, 31, 32, 35, 33, 34];
     for engine in ENGINES {
         assert_order(&order, 174, |i| {
             run(engine, i.mode, &i.reception, &i.register, &i.rows, &i.hgv, i.room).answer.number

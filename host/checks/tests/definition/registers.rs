@@ -2,7 +2,6 @@
 
 use crate::common::*;
 use graftspindle_checks::lists;
-use std::slice;
 
 #[test]
 fn in_order() {
@@ -74,8 +73,9 @@ fn old_record_is_replaced() {
     for engine in ENGINES {
         assert_eq!(run_lines(engine, &old, &[x()]).register, x());
         assert_eq!(run_lines(engine, &old, &[with(&old, 46, b"31")]).register, with(&old, 46, b"31"));
-        let full = run(engine, 2, R0, &old, ROW0, &hgv(slice::from_ref(&old)), 304);
-        assert_eq!((full.register, full.hgc), (free(1), hgc(0, &[(&old, "12")])));
+        let before = [old.clone(), y()].concat();
+        let full = run(engine, 2, R0, &before, ROW0, &hgv(&[old.clone(), y()]), 304);
+        assert_eq!((full.register, full.hgc), ([y(), free(1)].concat(), hgc(1, &[(&old, "12")])));
     }
 }
 
@@ -98,10 +98,10 @@ fn full_list_closes_up() {
         let outcome = run(engine, 2, R0, &before, ROW0, &hgv(&[c.clone(), a.clone()]), 174);
         assert_eq!(outcome.register, [b.clone(), c.clone(), a.clone()].concat());
         let own = [a.clone(), y(), c.clone()].concat();
-        let emptied = run(engine, 2, R0, &own, ROW0, &hgv(&[]), 174);
-        assert_eq!(emptied.register, free(3));
-        let rejected = run(engine, 2, R0, &own, ROW0, &hgv(&[bad()]), 304);
-        assert_eq!(rejected.register, free(3));
+        let left_out = run(engine, 2, R0, &own, ROW0, &hgv(&[y(), a.clone()]), 174);
+        assert_eq!(left_out.register, [y(), a.clone(), free(1)].concat());
+        let rejected = run(engine, 2, R0, &own, ROW0, &hgv(&[bad(), c.clone(), y()]), 304);
+        assert_eq!(rejected.register, [c.clone(), y(), free(1)].concat());
     }
 }
 

@@ -34,6 +34,17 @@ fn largest_file() {
     }
 }
 
+/// 35 by the largest numbers: half of 8,192 records, and one line less.
+#[test]
+fn largest_thin_list() {
+    let register = many(0, 8192).concat();
+    for engine in ENGINES {
+        assert_eq!(run(engine, 2, R0, &register, ROW0, &hgv(&many(4097, 4095)), 174).answer.number, 35);
+        let half = run(engine, 2, R0, &register, ROW0, &hgv(&many(4096, 4096)), 174);
+        assert_eq!(half.register, [many(4096, 4096).concat(), free(4096)].concat());
+    }
+}
+
 #[test]
 fn largest_confirmation() {
     let file = hgv(&vec![bad(); 8192]);
