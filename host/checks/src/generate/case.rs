@@ -53,16 +53,6 @@ pub fn lines(rng: &mut Rng, world: &World, sender: &[u8], reception: &[u8], most
     lines
 }
 
-type Held = Vec<Vec<u8>>;
-type Sent = Vec<Vec<u8>>;
-
-/// A full list about as long as it has to be beside the records held.
-fn held_and_sent(rng: &mut Rng, world: &World, sender: &[u8], reception: &[u8]) -> (Held, Sent) {
-    let records = held(rng, world, sender, reception);
-    let lines = full_list(rng, world, sender, reception, &records.concat());
-    (records, lines)
-}
-
 /// A case whose blocks are all of the right form; the buffer is long.
 fn right_case(rng: &mut Rng, world: &World) -> (Case, Header) {
     let sender = world.actor(rng);
@@ -73,9 +63,14 @@ fn right_case(rng: &mut Rng, world: &World) -> (Case, Header) {
         header.version = b"120001".to_vec();
     }
     let most = if rng.one_in(40) { 60 } else { 9 };
-    let (records, lines) = match mode == 2 && rng.one_in(3) {
-        true => held_and_sent(rng, world, &sender, &reception),
-        false => (records(rng, world, 10, None), lines(rng, world, &sender, &reception, most)),
+    let about_half = mode == 2 && rng.one_in(3);
+    let records = match about_half {
+        true => held(rng, world, &sender, &reception),
+        false => records(rng, world, 10, None),
+    };
+    let lines = match about_half {
+        true => full_list(rng, world, &sender, &reception, &records.concat()),
+        false => lines(rng, world, &sender, &reception, most),
     };
     let register = register(&records, most + 1);
     let hgv = hgv(&header, &lines);

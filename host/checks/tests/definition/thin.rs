@@ -127,6 +127,23 @@ fn between_32_and_34() {
     assert_eq!(of_all(|e| run(e, 2, R0, &accounts(0, 4).concat(), ROW0, &frame, 173)).answer.number, 32);
 }
 
+/// One account of three is sent again. A record more of another actor, and it is one of two; unless that is the account sent,
+/// which then is rejected.
+#[test]
+fn every_changed_byte_of_the_records() {
+    let (register, file) = ([x(), y(), accounts(5, 6).concat()].concat(), hgv(&[y()]));
+    let mut numbers = Counts::new();
+    for at in 0..register.len() {
+        for value in 0..=255 {
+            let changed = with(&register, at + 1, &[value]);
+            count(&mut numbers, of_all(|e| run(e, 2, R0, &changed, ROW0, &file, 304)).answer.number);
+        }
+    }
+    // A digit of the actor of a record whose account is not sent.
+    assert_eq!(numbers[&0], 2 * 6 * 9);
+    assert_reached("numbers of a changed register", &numbers, vec![0, 23, 35]);
+}
+
 /// A pair that takes fewer than half of the copy's records is applied.
 #[test]
 fn none_in_an_update() {
