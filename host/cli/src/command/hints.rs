@@ -4,7 +4,7 @@
 use super::input::Input;
 use super::{texts, Refusal};
 use graftspindle::sizes::{FOOTER, HEADER, HGV_MOST, LINE, ROW, SLOT, SLOTS_MOST};
-use graftspindle::{Number, Register};
+use graftspindle::{Counts, Number, Register};
 
 /// Of an HGV alone.
 pub fn of_hgv(number: Number, hgv: &Input) -> Refusal {
@@ -88,6 +88,34 @@ pub fn of_slots(name: &str, bytes: &[u8], again: impl FnOnce(&mut Register) -> R
         }
     };
     Refusal::Number(Number::Slots, words)
+}
+
+/// How thin a full list is: the same is tried on a register with free slots in place of the sender's records. Each line is
+/// judged there as here, since only the others' records and the file bear on it. Nothing is held for the sender that the list
+/// could be too thin for, and there is room, since the lines taken are fewer than the records that made way.
+pub fn of_thin(
+    name: &str,
+    bytes: &[u8],
+    hgv: &Input,
+    again: impl FnOnce(&mut Register) -> Result<Counts, Number>,
+) -> Refusal {
+    let (register, sender) = (Register::from_bytes(bytes.to_vec()), texts::sender(&hgv.bytes));
+    let (held, others): (Vec<&[u8]>, Vec<&[u8]>) = register.records().partition(|slot| texts::actor(slot) == sender);
+    let mut without = others.concat();
+    without.resize(bytes.len(), 0);
+    let would = match again(&mut Register::from_bytes(without)) {
+        Err(_) => String::new(),
+        Ok(Counts { taken, rejected }) => {
+            format!(", and {} of {} would be taken and {rejected} rejected", parts(taken as usize, "line"), hgv.name)
+        }
+    };
+    let (records, half) = (parts(held.len(), "record"), held.len().div_ceil(2));
+    let words = format!(
+        "{name} holds {records} of {sender}{would}; send the whole list or, where so many accounts really went, full lists in \
+         steps, each with at least half as many taken lines as records held (here {half}), or end the accounts by Valid to in \
+         an incremental list"
+    );
+    Refusal::Number(Number::ThinList, words)
 }
 
 /// `1 slot`, `2 slots`.

@@ -28,11 +28,12 @@ pub static IMPORT: Command = Command {
     ],
     words: &["HGV"],
     help: "\
-Imports the whitelist HGV into the register R and writes the confirmation for its sender to OUT. The moment of reception is
-UTC, and the present one unless it is given. R and OUT stand or fall together: killed at any moment, after the next command
-on R both are new or both are as they were. An HGC that is at OUT is replaced; a file of another kind is not. An import waits
-while another one of R runs. HGV or ROWS may be -, standard input. With a journal the import says where the list was imported
-before, or follows another list than the last one of its sender.
+Imports the whitelist HGV into the register R and writes the confirmation for its sender to OUT. A full list with fewer taken
+lines than half of the records held for its sender is refused (35). The moment of reception is UTC, and the present one
+unless it is given. R and OUT stand or fall together: killed at any moment, after the next command on R both are new or both
+are as they were. An HGC that is at OUT is replaced; a file of another kind is not. An import waits while another one of R
+runs. HGV or ROWS may be -, standard input. With a journal the import says where the list was imported before, or follows
+another list than the last one of its sender.
 ",
     run,
 };
@@ -67,6 +68,9 @@ fn explained(number: Number, import: &Import, names: &Names, register: &[u8]) ->
         Number::Rows => Refusal::Number(number, rows.name.clone()),
         Number::Parties => hints::of_parties(hgv, rows),
         Number::Slots => hints::of_slots(names.register, register, |largest| largest.import(import).map(|_| ())),
+        Number::ThinList => {
+            hints::of_thin(names.register, register, hgv, |without| without.import(import).map(|(counts, _)| counts))
+        }
         other => hints::of_hgv(other, hgv),
     }
 }
