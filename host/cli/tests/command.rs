@@ -50,6 +50,8 @@ mod steps;
 mod streams;
 #[path = "command/tables.rs"]
 mod tables;
+#[path = "command/thin.rs"]
+mod thin;
 #[path = "command/together.rs"]
 mod together;
 #[path = "command/traced.rs"]

@@ -62,6 +62,9 @@ fn stops_of_the_rest() {
     folder.write("register", &folder.read("register")[..128]);
     folder.write("hgv", &sample::hgv(2));
     assert_refused(&folder, IMPORT, 33);
+    folder.write("register", sample::hgv(4)[128..5 * 128].as_ref());
+    folder.write("hgv", &sample::hgv(1));
+    assert_refused(&folder, &IMPORT.replace("incremental", "full"), 35);
     folder.write("register", b"1");
     assert_refused(&folder, IMPORT, 23);
 }
