@@ -91,8 +91,8 @@ pub fn of_slots(name: &str, bytes: &[u8], again: impl FnOnce(&mut Register) -> R
 }
 
 /// How thin a full list is: the same is tried on a register with free slots in place of the sender's records. Each line is
-/// judged there as here, since only the others' records and the file bear on it. Nothing is held for the sender that the list
-/// could be too thin for, and there is room, since the lines taken are fewer than the records that made way.
+/// judged there as here, since only the others' records and the file bear on it (`own-unseen`). Nothing is held for the sender
+/// that the list could be too thin for, and there is room, since the lines taken are fewer than the records that made way.
 pub fn of_thin(
     name: &str,
     bytes: &[u8],
@@ -109,11 +109,10 @@ pub fn of_thin(
             format!(", and {} of {} would be taken and {rejected} rejected", parts(taken as usize, "line"), hgv.name)
         }
     };
-    let (records, half) = (parts(held.len(), "record"), held.len().div_ceil(2));
+    let records = parts(held.len(), "record");
     let words = format!(
         "{name} holds {records} of {sender}{would}; send the whole list or, where so many accounts really went, full lists in \
-         steps, each with at least half as many taken lines as records held (here {half}), or end the accounts by Valid to in \
-         an incremental list"
+         steps of at least half"
     );
     Refusal::Number(Number::ThinList, words)
 }

@@ -33,24 +33,23 @@ fn send(folder: &Folder, list: &[String], line: &str) -> Ran {
     graftspindle(folder, line)
 }
 
-/// What is said beside the sentence of 35: the records, the lines, and half of the records.
-fn said_of(folder: &Folder, records: &str, lines: &str, half: usize) -> String {
+/// What is said beside the sentence of 35: the records and the lines.
+fn said_of(folder: &Folder, records: &str, lines: &str) -> String {
     let (register, sent) = (folder.text("register"), folder.text("sent"));
     let (taken, rejected) = lines.split_once(", ").expect("taken and rejected");
     format!(
         "twice the lines taken are fewer than the records held for the sender: {register} holds {records} of 900123, and \
          {taken} of {sent} would be taken and {rejected} rejected; send the whole list or, where so many accounts really \
-         went, full lists in steps, each with at least half as many taken lines as records held (here {half}), or end the \
-         accounts by Valid to in an incremental list"
+         went, full lists in steps of at least half"
     )
 }
 
 /// The list is refused with one line on standard error; no file is changed, and none comes: no HGC is written.
-fn assert_thin(folder: &Folder, list: &[String], records: &str, lines: &str, half: usize) {
+fn assert_thin(folder: &Folder, list: &[String], records: &str, lines: &str) {
     folder.write("sent", &sample::hgv_of(list));
     let before = folder.all();
     let done = graftspindle(folder, FULL);
-    let words = said_of(folder, records, lines, half);
+    let words = said_of(folder, records, lines);
     assert_eq!((done.status, done.fault), (35, format!("graftspindle: 35: {words}\n")));
     assert_eq!(done.said, "");
     assert!(folder.all() == before);
@@ -67,21 +66,21 @@ fn assert_taken(folder: &Folder, list: &[String], used: usize) {
 #[test]
 fn four_held_and_one_taken() {
     let folder = holding(lines(0..4));
-    assert_thin(&folder, &lines(0..1), "4 records", "1 line, 0", 2);
-    assert_thin(&folder, &lines(7..8), "4 records", "1 line, 0", 2);
-    assert_thin(&folder, &[], "4 records", "0 lines, 0", 2);
+    assert_thin(&folder, &lines(0..1), "4 records", "1 line, 0");
+    assert_thin(&folder, &lines(7..8), "4 records", "1 line, 0");
+    assert_thin(&folder, &[], "4 records", "0 lines, 0");
     assert_taken(&folder, &lines(0..2), 2);
 }
 
 #[test]
 fn empty_list() {
     let folder = holding(lines(0..1));
-    assert_thin(&folder, &[], "1 record", "0 lines, 0", 1);
-    assert_thin(&folder, &[sample::faulty_line(0)], "1 record", "0 lines, 1", 1);
+    assert_thin(&folder, &[], "1 record", "0 lines, 0");
+    assert_thin(&folder, &[sample::faulty_line(0)], "1 record", "0 lines, 1");
     assert_taken(&folder, &lines(5..6), 1);
 }
 
-/// The number that the refusal names passes, one line less does not.
+/// Half passes, rounded up where the records are odd; one line less does not.
 #[test]
 fn half_passes() {
     for (held, records, fewer, half) in [
@@ -94,7 +93,7 @@ fn half_passes() {
         (9, "9 records", "4 lines, 0", 5),
     ] {
         let folder = holding(lines(0..held));
-        assert_thin(&folder, &lines(0..half - 1), records, fewer, half);
+        assert_thin(&folder, &lines(0..half - 1), records, fewer);
         assert_taken(&folder, &lines(0..half), half);
     }
 }
@@ -104,11 +103,11 @@ fn half_passes() {
 fn in_steps() {
     let folder = holding(lines(0..22));
     let eleven: Vec<String> = [lines(0..10), vec![sample::faulty_line(10)]].concat();
-    assert_thin(&folder, &eleven, "22 records", "10 lines, 1", 11);
+    assert_thin(&folder, &eleven, "22 records", "10 lines, 1");
     for kept in [11, 6, 3, 2, 1] {
         assert_taken(&folder, &lines(0..kept), kept);
     }
-    assert_thin(&folder, &[], "1 record", "0 lines, 0", 1);
+    assert_thin(&folder, &[], "1 record", "0 lines, 0");
 }
 
 /// Lines that their own rules, another provider's record and an earlier line of the file reject: what would be taken is what
@@ -118,7 +117,7 @@ fn rejected_lines_and_other_providers() {
     let records = (0..5).flat_map(|i| [foreign(20 + i), sample::line(i)]);
     let folder = holding(records);
     let list = [0, 1, 23, 1].map(sample::line).into_iter().chain([sample::faulty_line(2)]).collect::<Vec<_>>();
-    assert_thin(&folder, &list, "5 records", "2 lines, 3", 3);
+    assert_thin(&folder, &list, "5 records", "2 lines, 3");
     let done = send(&folder, &list, &FULL.replace("full", "incremental"));
     assert!(done.status == 0 && done.said.starts_with("taken 2, rejected 3; "), "{}{}", done.said, done.fault);
     let whole: Vec<String> = list.into_iter().chain(lines(3..4)).collect();
@@ -133,7 +132,7 @@ fn ended_records_are_held() {
         line
     };
     let folder = holding((0..3).map(ended).chain(lines(3..4)));
-    assert_thin(&folder, &lines(3..4), "4 records", "1 line, 0", 2);
+    assert_thin(&folder, &lines(3..4), "4 records", "1 line, 0");
     assert_taken(&folder, &lines(3..5), 2);
 }
 
@@ -144,7 +143,7 @@ fn full_register() {
     let records = (0..8192).map(|i| if i % 1000 == 7 { foreign(i) } else { sample::line(i) });
     folder.write("register", &slots(records));
     let mine = |most: usize| (0..8192).filter(|i| i % 1000 != 7).map(sample::line).take(most).collect::<Vec<_>>();
-    assert_thin(&folder, &mine(4091), "8183 records", "4091 lines, 0", 4092);
+    assert_thin(&folder, &mine(4091), "8183 records", "4091 lines, 0");
     assert_taken(&folder, &mine(4092), 9 + 4092);
 }
 
@@ -186,7 +185,7 @@ fn stops_before_it() {
 fn json_and_journal() {
     let folder = holding(lines(0..3));
     let done = send(&folder, &lines(0..1), &FULL.replace("--hgc", "--json --journal @journal --hgc"));
-    let words = said_of(&folder, "3 records", "1 line, 0", 2);
+    let words = said_of(&folder, "3 records", "1 line, 0");
     assert_eq!((done.status, done.said), (35, format!("{{\"status\":35,\"words\":\"{words}\"}}\n")));
     let journal = String::from_utf8(folder.read("journal")).expect("UTF-8");
     assert_eq!(journal.lines().count(), 1);
