@@ -22,6 +22,12 @@ pub struct Imported {
     pub length: u64,
 }
 
+// How many lines were taken, and how many rejected.
+struct Counts {
+    taken: u64,
+    rejected: u64,
+}
+
 fn refused(number: u64) -> Imported
     ensures { λ r. ⌜ r ≡ refusal number ⌝ }
 {
@@ -42,14 +48,13 @@ fn judged_stop(
     hgv: &[u8],
     hgc: &[u8],
     verdicts: &[u8],
-    taken: u64,
-    rejected: u64,
+    counts: Counts,
     found: &mut [u16],
 ) -> u64
     requires clear { ⌜ Clear mode (now reception) (now register) (now rows) (now hgv) ⌝ }
     requires verdict { ⌜ now verdicts ≡ judged (now register) (now rows) (now hgv) ⌝ }
-    requires good { ⌜ taken ≡ tally good (now verdicts) ⌝ }
-    requires bad { ⌜ rejected ≡ tally bad (now verdicts) ⌝ }
+    requires good { ⌜ counts .taken ≡ tally good (now verdicts) ⌝ }
+    requires bad { ⌜ counts .rejected ≡ tally bad (now verdicts) ⌝ }
     requires many { ⌜ length (now found) ≡ length (now verdicts) ⌝ }
     ensures stopped { λ r. ⌜ r ≡ first (judgedStops (handed mode (now (reception .entry)) (now (rows .entry)) (now (hgv .entry)) (now (hgc .entry))) (now (register .entry))) ⌝ }
     ensures placed { λ _. ⌜ now (found .exit) ≡ placesAfter mode (records (now (register .entry))) (widthOf (now (hgv .entry))) (body (now (hgv .entry))) (now (verdicts .entry)) (now (found .entry)) ⌝ }
@@ -63,10 +68,10 @@ fn judged_stop(
         verdicts,
         found,
     );
-    let length = hgc::length_for(hgv::width(hgv), rejected as usize);
+    let length = hgc::length_for(hgv::width(hgv), counts.rejected as usize);
     let s34 = rules::first(hgc.len() < length, 34, 0);
     let s33 = rules::first(register.len() / sizes::SLOT < used, 33, s34);
-    let thin = thinness::is_thin(mode, register, header::sender(hgv), taken);
+    let thin = thinness::is_thin(mode, register, header::sender(hgv), counts.taken);
     rules::first(thin, 35, s33)
 }
 
@@ -79,11 +84,10 @@ fn carry_out(
     hgv: &[u8],
     hgc: &mut [u8],
     verdicts: &[u8],
-    taken: u64,
-    rejected: u64,
+    counts: Counts,
     found: &[u16],
 ) -> Imported
-    requires { ⌜ Accepted (handed mode (now reception) (now rows) (now hgv) (now hgc)) (now register) (now verdicts) taken rejected (now found) ⌝ }
+    requires { ⌜ Accepted (handed mode (now reception) (now rows) (now hgv) (now hgc)) (now register) (now verdicts) (counts .taken) (counts .rejected) (now found) ⌝ }
     ensures answered { λ r. ⌜ r ≡ success (handed mode (now (reception .entry)) (now (rows .entry)) (now (hgv .entry)) (now (hgc .entry))) (now (register .entry)) ⌝ }
     ensures stored { λ _. ⌜ now (register .exit) ≡ registerWritten (handed mode (now (reception .entry)) (now (rows .entry)) (now (hgv .entry)) (now (hgc .entry))) (now (register .entry)) ⌝ }
     ensures confirmed { λ _. ⌜ now (hgc .exit) ≡ hgcWritten (handed mode (now (reception .entry)) (now (rows .entry)) (now (hgv .entry)) (now (hgc .entry))) (now (register .entry)) ⌝ }
@@ -98,12 +102,12 @@ fn carry_out(
         verdicts,
         found,
     );
-    hgc::write(hgc, reception, hgv, verdicts, taken, rejected);
-    let length = hgc::length_for(hgv::width(hgv), rejected as usize) as u64;
+    hgc::write(hgc, reception, hgv, verdicts, counts.taken, counts.rejected);
+    let length = hgc::length_for(hgv::width(hgv), counts.rejected as usize) as u64;
     Imported {
         number: 0,
-        taken,
-        rejected,
+        taken: counts.taken,
+        rejected: counts.rejected,
         length,
     }
 }
@@ -127,6 +131,7 @@ fn import_judged(
 {
     let taken = taken::count_taken(verdicts);
     let rejected = verdicts.len() as u64 - taken;
+    let counts = Counts { taken, rejected };
     let stop = judged_stop(
         mode,
         reception,
@@ -135,8 +140,7 @@ fn import_judged(
         hgv,
         hgc,
         verdicts,
-        taken,
-        rejected,
+        counts,
         found,
     );
     if stop != 0 {
@@ -150,8 +154,7 @@ fn import_judged(
         hgv,
         hgc,
         verdicts,
-        taken,
-        rejected,
+        counts,
         found,
     )
 }

@@ -45,11 +45,10 @@ returns c =
     let used = d .before .before .before .before .before .before .used-after .ensures in
     let width = d .before .before .before .before .before .before .before .before .width .ensures in
     let body = d .before .before .before .before .before .before .before .before .before .body .ensures in
-    let sender = d .before .before .before .before .before .before .before .before .before .before .sender .ensures in
-    (
+    let sender = d .before .before .before .before .before .before .before .before .before .before .sender .ensures in (
       chosen _ _ _ _ _ _ (c .first3 .ensures) (thin-is f _ _ _ clear verdicts bad _ (c .before .before .sender2 .ensures) _ good _ (c .before .is-thin .ensures)) (
-      chosen _ _ _ _ _ _ (d .first2 .ensures) (slots-are f _ _ _ clear verdicts bad _ _ sender body _ width _ (used .0)) (
-      chosen _ _ _ _ _ _ (d .before .first .ensures) (buffer-is f _ _ _ clear verdicts bad _ (d .before .before .before .width2 .ensures) _ (d .before .before .length-for .ensures)) refl)),
+          chosen _ _ _ _ _ _ (d .first2 .ensures) (slots-are f _ _ _ clear verdicts bad _ _ sender body _ width _ (used .0)) (
+          chosen _ _ _ _ _ _ (d .before .first .ensures) (buffer-is f _ _ _ clear verdicts bad _ (d .before .before .before .width2 .ensures) _ (d .before .before .length-for .ensures)) refl)),
       rw (width, body) at (used .1),
     )
 
