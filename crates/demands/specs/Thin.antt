@@ -11,7 +11,7 @@ use Rattle.theory.specs.Tally.{tally}
 use Rattle.sizes.specs.Sizes.{incremental, full}
 use Rattle.lines.specs.End.{recordOf}
 use Rattle.header.specs.Header.{sender}
-use Rattle.hgv.specs.Layout.{linesOf}
+use Rattle.hgv.specs.Layout.{linesIn, linesOf}
 use Rattle.slots.specs.Slots.{slotsIn, records}
 use Rattle.slots.specs.Search.{countOf}
 use Rattle.holdings.specs.Holdings.{others, holdings}
@@ -49,6 +49,10 @@ module _ (f : Handed) (register : List ℕ) (r : Imported) (b g : List ℕ) (o :
     -- half exactly passes, and where nothing is held nothing is stopped;
     pub half-passes : held ≤ 2 * tally good vs → r .number ≡ 35 → ⊥
     half-passes h e = omega (arith, stopped-only e .1 .1)
+
+    -- a full list without a line stops where anything is held;
+    pub empty-stops : None form → f .mode ≡ full → linesIn (f .hgv) ≡ 0 → 0 < held → r .number ≡ 35
+    empty-stops = laws.empty-stops f register r b g o vs v
 
     -- an incremental list passes
     pub incremental-passes : f .mode ≡ incremental → r .number ≡ 35 → ⊥

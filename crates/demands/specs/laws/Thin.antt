@@ -16,12 +16,14 @@ use Rattle.theory.specs.Walk.{some}
 use Rattle.theory.specs.Keep.{onto, sift}
 use Rattle.theory.specs.Pick.{good, bad, pick}
 use Rattle.theory.specs.Tally.{tally}
+use Rattle.theory.specs.laws.Tally.{tallies}
 use Rattle.sizes.specs.Sizes.{full}
 use Rattle.sizes.specs.Modes.{isFull}
 use Rattle.columns.specs.Columns.{panOf}
 use Rattle.lines.specs.End.{recordOf}
 use Rattle.header.specs.Header.{sender}
-use Rattle.hgv.specs.Layout.{linesOf}
+use Rattle.hgv.specs.Layout.{linesIn, linesOf}
+use Rattle.hgv.specs.laws.Layout.{length-lines}
 use Rattle.slots.specs.Slots.{slotsIn, records}
 use Rattle.slots.specs.Search.{holdsPan, ofActor, holdsForeign, heldByAnother, countOf}
 use Rattle.verdicts.specs.Verdict.{ownRules, verdictRules, fileVerdicts, taken}
@@ -77,6 +79,9 @@ module _ (f : Handed) (register : List ℕ) (r : Imported) (b g : List ℕ) (o :
     stopped-so n m l =
         number-is f register r b g o
         ∙ sym (number-judged f register (clear-form n) 35 (sym (rw (judged-is, thin-so (f .mode) from (records register) (tally good vs) m l))))
+
+    pub empty-stops : None fs → f .mode ≡ full → linesIn (f .hgv) ≡ 0 → 0 < countOf from (records register) → r .number ≡ 35
+    empty-stops n m z l = stopped-so n m (omega (arith, l, z, tallies vs, v .for-each, length-lines (f .hgv)))
 
     -- no stop of form has this number
     form-passed : r .number ≡ 35 → (first fs ≡ 0) × (first (judgedStops f register) ≡ 35)
