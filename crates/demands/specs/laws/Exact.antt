@@ -21,7 +21,7 @@ use Rattle.slots.specs.Slots.{slotsIn, records, usedIn}
 use Rattle.register.specs.Register.{inOrder}
 use Rattle.slots.specs.Search.{ofActor}
 use Rattle.slots.specs.laws.Slots.{records-chop}
-use Rattle.verdicts.specs.Verdict.{fileVerdicts, taken}
+use Rattle.verdicts.specs.Verdict.{taken}
 use Rattle.hgc.specs.Confirmation.{confirmation}
 use Rattle.holdings.specs.Holdings.{others, holdings}
 use Rattle.sizes.specs.Modes.{isFull}
@@ -39,7 +39,7 @@ use Rattle.demands.specs.laws.Weighed.{judged-today, accepted-today, rea
 use Rattle.importer.specs.Handed.{Handed}
 use Rattle.demands.specs.laws.Imports.{number-0, done-is, register-is, hgc-is}
 use Rattle.demands.specs.Verdicts.{Verdicts}
-use Rattle.demands.specs.laws.Judging.{verdicts-only}
+use Rattle.demands.specs.laws.Judging.{judged-is}
 
 -- a record is the part at its place
 record-at : (b : List ℕ) (i : ℕ) → i < usedIn b → partAt slotLength i b ≡ getD (records b) i []
@@ -52,7 +52,7 @@ module _ (f : Handed) (register : List ℕ) (r : Imported) (b g : List ℕ) (o :
   e : importNumber f register ≡ 0
   e = number-0 f register r b g o z
 
-  holds : Holds (slotsIn register) (following f register) b
+  pub holds : Holds (slotsIn register) (following f register) b
   holds = rw (register-is f register r b g o z) (holds-following f register e)
 
   -- ---- the counts
@@ -90,29 +90,28 @@ module _ (f : Handed) (register : List ℕ) (r : Imported) (b g : List ℕ) (o :
   -- ---- by the verdicts of the lines
 
   module _ (vs : List ℕ) (v : Verdicts (f .rows) from (records register) (linesOf (f .hgv)) vs) where
-    judged-is : judged register (f .rows) (f .hgv) ≡ vs
-    unfolding judged fileVerdicts
-    judged-is = sym (verdicts-only (f .rows) from (records register) (linesOf (f .hgv)) vs v)
+    verdicts-are : judged register (f .rows) (f .hgv) ≡ vs
+    verdicts-are = judged-is register (f .rows) (f .hgv) vs v
 
     pub taken-is : r .taken ≡ tally good vs
     unfolding success
-    taken-is = ap (λ (a : Imported). a .taken) (done-is f register r b g o z) ∙ ap (tally good) judged-is
+    taken-is = ap (λ (a : Imported). a .taken) (done-is f register r b g o z) ∙ ap (tally good) verdicts-are
 
     pub rejected-is : r .rejected ≡ tally bad vs
     unfolding success
-    rejected-is = ap (λ (a : Imported). a .rejected) (done-is f register r b g o z) ∙ ap (tally bad) judged-is
+    rejected-is = ap (λ (a : Imported). a .rejected) (done-is f register r b g o z) ∙ ap (tally bad) verdicts-are
 
     pub records-are : records b ≡ holdings (f .mode) from (recordOf (f .reception)) (records register) (pick good vs (linesOf (f .hgv)))
     unfolding following taken
-    records-are = holds .held ∙ rw judged-is
+    records-are = holds .held ∙ rw verdicts-are
 
     pub length-is : r .length ≡ length (confirmation (f .reception) (f .hgv) vs)
     unfolding success confirmed
-    length-is = ap (λ (a : Imported). a .length) (done-is f register r b g o z) ∙ rw judged-is
+    length-is = ap (λ (a : Imported). a .length) (done-is f register r b g o z) ∙ rw verdicts-are
 
     pub buffer-is : g ≡ confirmation (f .reception) (f .hgv) vs ++ drop (r .length) (f .hgc)
     unfolding hgcWritten confirmed
-    buffer-is = hgc-is f register r b g o z ∙ rw (judged-is, length-is)
+    buffer-is = hgc-is f register r b g o z ∙ rw (verdicts-are, length-is)
 
     -- ---- read back, by any outcome of it
 
@@ -120,5 +119,5 @@ module _ (f : Handed) (register : List ℕ) (r : Imported) (b g : List ℕ) (o :
       pub read-is : linesIn (f .hgv) ≤ length block → (u ≡ record { number = 0; taken = r .taken; rejected = r .rejected }) × (w ≡ vs ++ drop (linesIn (f .hgv)) block)
       unfolding ownCounts
       read-is m =
-          rw (taken-is, rejected-is, ← judged-is, ← judged-today f register)
+          rw (taken-is, rejected-is, ← verdicts-are, ← judged-today f register)
           (read-under weightHolds f register b (take (r .length) g) (accepted-today f register r b g o z) block u w p m)

@@ -9,7 +9,11 @@ use Rattle.theory.specs.laws.Scan.{length-scan, scan-at, scan-only}
 use Rattle.columns.specs.Columns.{panOf}
 use Rattle.lines.specs.laws.Faultless.{faultless-none}
 use Rattle.slots.specs.Search.{holdsPan}
-use Rattle.verdicts.specs.Verdict.{ownRules, verdictRules, verdict, verdictsOf}
+use Rattle.header.specs.Header.{sender}
+use Rattle.hgv.specs.Layout.{linesOf}
+use Rattle.slots.specs.Slots.{records}
+use Rattle.verdicts.specs.Verdict.{ownRules, verdictRules, verdict, verdictsOf, fileVerdicts}
+use Rattle.importer.specs.Import.{judged}
 use Rattle.verdicts.specs.laws.Verdict.{own-is, verdict-is, taken-faultless, taken-free}
 use Rattle.demands.specs.Verdicts.{Verdicts, Unbroken}
 
@@ -47,3 +51,10 @@ module _ (rows from : List ℕ) (R : List (List ℕ)) where
     none-fits u =
         verdict-is rows from R l earlier
         ∙ rw (own-is rows from R l, faultless-none rows from l (u .l1-to-l10), u .l11, u .l12)
+
+-- ---- a file
+
+-- the verdicts of its lines, beside the register, are what it was judged to be
+pub judged-is : (register rows h vs : List ℕ) → Verdicts rows (sender h) (records register) (linesOf h) vs → judged register rows h ≡ vs
+unfolding judged fileVerdicts
+judged-is register rows h vs v = sym (verdicts-only rows (sender h) (records register) (linesOf h) vs v)

@@ -24,7 +24,7 @@ use Rattle.importer.specs.Handed.{Handed}
 use Rattle.updating.specs.Sent.{Sent, sent}
 use Rattle.updating.specs.Update.{ownHolds, copyStops, copyFollowing, receiptStops, updateNumber, updateAnswer, copyWritten, copyAfter}
 use Rattle.demands.specs.Own.{own}
-use Rattle.demands.specs.laws.Own.{own-holdings, fit-own, own-others}
+use Rattle.demands.specs.laws.Own.{own-holdings, fit-own, own-stays}
 use Rattle.importer.specs.laws.Numbers.{Formed}
 use Rattle.hgc.specs.Confirmation.{confirmation}
 use Rattle.theory.specs.Join.{flat}
@@ -59,7 +59,7 @@ module _ (f : Handed) (register vs : List ℕ) (s : Sound f register vs) where
   -- it mirrors the register as it did
   pub another-mirrors : (who copy : List ℕ) → eqs (sender (f .hgv)) who ≡ false → Mirrors who register copy → Mirrors who after copy
   another-mirrors who copy d m =
-      rw (after-holds .many, after-holds .held, ← own-others who (sender (f .hgv)) (followingBy vs f register) d, others-same, own-others who (sender (f .hgv)) (records register) d) m
+      rw (after-holds .many, after-holds .held, own-stays who (sender (f .hgv)) (followingBy vs f register) (records register) d others-same) m
 
   -- ---- his own is updated
 

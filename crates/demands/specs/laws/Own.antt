@@ -1,6 +1,6 @@
 -- A provider's own records, in our order: what an import of his does to them it does to his copy of them, and an import of
 -- another leaves them. Assumes nothing.
-use mathlib.Core.Path.{_≡_, refl, ap, _∙_}
+use mathlib.Core.Path.{_≡_, refl, sym, ap, _∙_}
 use mathlib.Core.Bool.{Bool, true, false, not, cond, _&&_, true≢false}
 use mathlib.Core.List.{List, [], _∷_, _++_, map}
 use Prim.Native.Nat.{ℕ}
@@ -91,3 +91,7 @@ module _ (mode : ℕ) (who : List ℕ) (make : List ℕ → List ℕ) (slots : �
 pub own-others : (who from : List ℕ) (R : List (List ℕ)) → eqs from who ≡ false → own who (others from R) ≡ own who R
 unfolding own others ofActor
 own-others who from R d = sift-inside (ofActor who) (λ r. not (ofActor from r)) (λ r e. rw (eqs-true (actor r) who e, eqs-sym who from, d)) R
+
+-- so what leaves the records of all but another leaves his
+pub own-stays : (who from : List ℕ) (R S : List (List ℕ)) → eqs from who ≡ false → others from R ≡ others from S → own who R ≡ own who S
+own-stays who from R S d e = sym (own-others who from R d) ∙ rw e (own-others who from S d)

@@ -1,5 +1,5 @@
 -- Which full lists are refused as too thin, and what a list that is not leaves of the records held. Assumes nothing.
-use mathlib.Core.Path.{_≡_, refl, sym, ap, _∙_}
+use mathlib.Core.Path.{_≡_, refl, sym, _∙_}
 use mathlib.Core.Bool.{Bool, true, false, not, cond, _&&_, _||_, true≢false}
 use mathlib.Core.List.{List, [], _∷_, _++_, map}
 use Prim.Native.Nat.{ℕ, zero, suc, _*_, _≤_, _<_}
@@ -26,7 +26,7 @@ use Rattle.hgv.specs.Layout.{linesIn, linesOf}
 use Rattle.hgv.specs.laws.Layout.{length-lines}
 use Rattle.slots.specs.Slots.{slotsIn, records}
 use Rattle.slots.specs.Search.{holdsPan, ofActor, holdsForeign, heldByAnother, countOf}
-use Rattle.verdicts.specs.Verdict.{ownRules, verdictRules, fileVerdicts, taken}
+use Rattle.verdicts.specs.Verdict.{ownRules, verdictRules, taken}
 use Rattle.holdings.specs.Holdings.{storedAll, others, replacedAll, holdings}
 use Rattle.holdings.specs.laws.Storing.{all-grows}
 use Rattle.thinness.specs.Thin.{thin}
@@ -39,7 +39,7 @@ use Rattle.importer.specs.Import.{judged, following, confirmed, judgedStops, st
 use Rattle.importer.specs.Promises.{Import}
 use Rattle.importer.specs.laws.Numbers.{Formed, number-judged, accepted-clear, accepted-passed}
 use Rattle.importer.specs.laws.Accepted.{lines-his}
-use Rattle.importer.specs.laws.Follows.{fit, holds-following}
+use Rattle.importer.specs.laws.Follows.{fit}
 use Rattle.importer.specs.laws.Thin.{length-taken, never-both}
 use Rattle.provider.specs.declared.Counted.{Counted}
 use Rattle.updating.specs.Sent.{Sent}
@@ -47,9 +47,9 @@ use Rattle.updating.specs.Update.{copyStops, receiptStops, updateNumber}
 use Rattle.updating.specs.Promises.{Update}
 use Rattle.demands.specs.Own.{own}
 use Rattle.demands.specs.Verdicts.{Verdicts}
-use Rattle.demands.specs.laws.Own.{own-holdings, own-others}
-use Rattle.demands.specs.laws.Judging.{verdicts-only}
-use Rattle.demands.specs.laws.Imports.{number-is, number-0, refused-register, register-is}
+use Rattle.demands.specs.laws.Own.{own-holdings, own-stays}
+use Rattle.demands.specs.laws.Judging.{judged-is}
+use Rattle.demands.specs.laws.Imports.{number-is, number-0, refused-register}
 use Rattle.demands.specs.laws.Answered.{update-is}
 use Rattle.demands.specs.laws.Exact as exact
 
@@ -63,9 +63,8 @@ module _ (f : Handed) (register : List ℕ) (r : Imported) (b g : List ℕ) (o :
   fs = formStops (f .mode) (f .reception) register (f .rows) (f .hgv)
 
   module _ (vs : List ℕ) (v : Verdicts (f .rows) from (records register) (linesOf (f .hgv)) vs) where
-    judged-is : judged register (f .rows) (f .hgv) ≡ vs
-    unfolding judged fileVerdicts
-    judged-is = sym (verdicts-only (f .rows) from (records register) (linesOf (f .hgv)) vs v)
+    verdicts-are : judged register (f .rows) (f .hgv) ≡ vs
+    verdicts-are = judged-is register (f .rows) (f .hgv) vs v
 
     abbrev isThin : Bool
     isThin = thin (f .mode) from (records register) (tally good vs)
@@ -78,7 +77,7 @@ module _ (f : Handed) (register : List ℕ) (r : Imported) (b g : List ℕ) (o :
     unfolding judgedStops first choose
     stopped-so n m l =
         number-is f register r b g o
-        ∙ sym (number-judged f register (clear-form n) 35 (sym (rw (judged-is, thin-so (f .mode) from (records register) (tally good vs) m l))))
+        ∙ sym (number-judged f register (clear-form n) 35 (sym (rw (verdicts-are, thin-so (f .mode) from (records register) (tally good vs) m l))))
 
     pub empty-stops : None fs → f .mode ≡ full → linesIn (f .hgv) ≡ 0 → 0 < countOf from (records register) → r .number ≡ 35
     empty-stops n m z l = stopped-so n m (omega (arith, l, z, tallies vs, v .for-each, length-lines (f .hgv)))
@@ -99,7 +98,7 @@ module _ (f : Handed) (register : List ℕ) (r : Imported) (b g : List ℕ) (o :
 
     is-thin : r .number ≡ 35 → isThin ≡ true
     unfolding judgedStops first choose
-    is-thin e = go isThin (ltb (slotsIn register) (length (following f register))) (ltb (length (f .hgc)) (length (confirmed f register))) (rw judged-is at (form-passed e .1))
+    is-thin e = go isThin (ltb (slotsIn register) (length (following f register))) (ltb (length (f .hgc)) (length (confirmed f register))) (rw verdicts-are at (form-passed e .1))
       where
         go : (t s u : Bool) → choose t 35 (choose s 33 (choose u 34 0)) ≡ 35 → t ≡ true
         go true s u k = refl
@@ -113,7 +112,7 @@ module _ (f : Handed) (register : List ℕ) (r : Imported) (b g : List ℕ) (o :
     pub has-room : r .number ≡ 35 → length (holdings (f .mode) from (recordOf (f .reception)) (records register) (pick good vs (linesOf (f .hgv)))) ≤ slotsIn register
     unfolding following taken
     has-room e =
-        rw judged-is at (ltb-false (slotsIn register) (length (following f register)) (never-both f register (clear-form (form-none e)) (rw judged-is (is-thin e))))
+        rw verdicts-are at (ltb-false (slotsIn register) (length (following f register)) (never-both f register (clear-form (form-none e)) (rw verdicts-are (is-thin e))))
 
 -- ---- what an import leaves of the records held for an actor
 
@@ -161,15 +160,11 @@ module _ (f : Handed) (register : List ℕ) (r : Imported) (b g : List ℕ) (o :
       e : importNumber f register ≡ 0
       e = number-0 f register r b g o z
 
-      held : records b ≡ following f register
-      held = rw (register-is f register r b g o z) (holds-following f register e .held)
-
       go : (t : Bool) → eqs (sender (f .hgv)) who ≡ t → countOf who (records register) ≤ 2 * countOf who (records b)
-      go true s = rw (← eqs-true (sender (f .hgv)) who s, count-own (sender (f .hgv)) (records b), held) (sender-half f register e)
+      go true s = rw (← eqs-true (sender (f .hgv)) who s, count-own (sender (f .hgv)) (records b), exact.holds f register r b g o z .held) (sender-half f register e)
       go false d =
-          let same : own who (records b) ≡ own who (records register) =
-          sym (own-others who (sender (f .hgv)) (records b) d) ∙ ap (own who) (exact.others-are f register r b g o z) ∙ own-others who (sender (f .hgv)) (records register) d in
-          omega (arith, count-own who (records b), count-own who (records register), ap (λ (R : List (List ℕ)). length R) same)
+          rw (count-own who (records b), own-stays who (sender (f .hgv)) (records b) (records register) d (exact.others-are f register r b g o z), ← count-own who (records register))
+          (omega arith)
 
   pub half-left : (who : List ℕ) → countOf who (records register) ≤ 2 * countOf who (records b)
   half-left who = go (r .number) refl
