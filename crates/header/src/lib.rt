@@ -9,12 +9,18 @@ ghost use Rattle.fields.specs.Field.{digit, zeroDigit};
 ghost use Rattle.times.specs.Time.{realTime};
 ghost use Rattle.sequences.specs.Sequence.{sequence};
 ghost use Rattle.header.specs.Header.{sender, listSequence, creation, previousHolds};
-ghost use Rattle.header.specs.Promises.{Sender, HasHeader};
+ghost use Rattle.header.specs.Promises.{Sender, ListSequence, HasHeader};
 
 pub fn sender<'a>(h: &'a [u8]) -> &'a [u8]
     ensures { λ r. ⌜ Sender (now (h .entry)) (now r) ⌝ }
 {
     texts::field(h, columns::SENDER_FROM, columns::SENDER_TO)
+}
+
+pub fn list_sequence<'a>(h: &'a [u8]) -> &'a [u8]
+    ensures { λ r. ⌜ ListSequence (now (h .entry)) (now r) ⌝ }
+{
+    texts::field(h, columns::SEQUENCE_FROM, columns::SEQUENCE_TO)
 }
 
 fn has_digits(s: &[u8], from: usize, to: usize, n: usize) -> bool
@@ -34,10 +40,7 @@ fn has_zeros(s: &[u8], from: usize, to: usize, n: usize) -> bool
 fn has_sequence(h: &[u8]) -> bool
     ensures { λ r. ⌜ r ≡ sequence (sender (now (h .entry))) (listSequence (now (h .entry))) ⌝ }
 {
-    sequences::is_sequence(
-        texts::field(h, columns::SEQUENCE_FROM, columns::SEQUENCE_TO),
-        sender(h),
-    )
+    sequences::is_sequence(list_sequence(h), sender(h))
 }
 
 fn has_previous(h: &[u8]) -> bool

@@ -29,11 +29,7 @@ fn put_names(hgc: &mut [u8], reception: &[u8], hgv: &[u8])
     ensures { λ _. ⌜ now (hgc .exit) ≡ putField 1 (flat (nameTexts (now (reception .entry)) (now (hgv .entry)))) (now (hgc .entry)) ⌝ }
 {
     let sender = header::sender(hgv);
-    let sequence = texts::field(
-        hgv,
-        header::columns::SEQUENCE_FROM,
-        header::columns::SEQUENCE_TO,
-    );
+    let sequence = header::list_sequence(hgv);
     writing::put_field(hgc, places::HEADER_TYPE, b"0");
     writing::put_field(hgc, places::SENDER_FROM, b"000002");
     writing::put_field(hgc, places::RECEIVER_FROM, sender);

@@ -5,7 +5,7 @@ use mathlib.Core.List.{List}
 use Prim.Native.Nat.{ℕ}
 use Rattle.hgv.specs.Layout.{widthOf}
 use Rattle.hgc.specs.Confirmation.{answerLength}
-use Rattle.receipts.specs.Receipt.{answersIn, behindHead, receptionOf, saysHold}
+use Rattle.receipts.specs.Receipt.{answersIn, behindHead, listOf, receptionOf, saysHold}
 
 -- of a line of the HGC to this HGV
 abbrev pub Width : List ℕ → ℕ → Type 0
@@ -17,6 +17,9 @@ AnswersIn h g r = r ≡ answersIn h g
 -- its lines, and what stands behind them
 abbrev pub Answers : List ℕ → List ℕ → Type 0
 Answers g r = r ≡ behindHead g
+
+abbrev pub ListSequence : List ℕ → List ℕ → Type 0
+ListSequence g r = r ≡ listOf g
 
 abbrev pub Reception : List ℕ → List ℕ → Type 0
 Reception g r = r ≡ receptionOf g

@@ -43,6 +43,9 @@ behindHead g = drop hgcHeaderLength g
 unfoldable pub answersOf : List ℕ → List ℕ → List (List ℕ)
 answersOf h g = chop (answerLength (widthOf h)) (answersIn h g) (behindHead g)
 
+abbrev pub listOf : List ℕ → List ℕ
+listOf g = field 14 32 g
+
 abbrev pub receptionOf : List ℕ → List ℕ
 receptionOf g = field 33 46 g
 
@@ -78,7 +81,7 @@ formHolds h g = lengthForm h g && headForm g && each (answerForm (widthOf h)) (a
 
 -- the receiver is the HGV's sender, the list its list
 unfoldable pub namesHold : List ℕ → List ℕ → Bool
-namesHold h g = eqs (field 8 13 g) (sender h) && eqs (field 14 32 g) (listSequence h)
+namesHold h g = eqs (field 8 13 g) (sender h) && eqs (listOf g) (listSequence h)
 
 -- `00` or `01` fits
 unfoldable pub outcomeHolds : List ℕ → List ℕ → Bool

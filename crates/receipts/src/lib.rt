@@ -7,7 +7,7 @@ ghost use Rattle.hgv.specs.Layout.{widthOf};
 ghost use Rattle.hgv.specs.laws.Layout.{IsWidth};
 ghost use Rattle.theory.specs.Walk.{each};
 ghost use Rattle.receipts.specs.Receipt.{answersOf, lengthForm, headForm, answerForm, namesHold, outcomeHolds, reasonHolds};
-ghost use Rattle.receipts.specs.Promises.{Width, AnswersIn, Answers, Reception, Says};
+ghost use Rattle.receipts.specs.Promises.{Width, AnswersIn, Answers, ListSequence, Reception, Says};
 
 // Header and footer.
 const BARE: usize = sizes::HGC_HEADER + sizes::FOOTER;
@@ -37,6 +37,12 @@ pub fn answers<'a>(hgc: &'a [u8]) -> &'a [u8]
         return &hgc[0..0];
     }
     &hgc[sizes::HGC_HEADER..]
+}
+
+pub fn list_sequence<'a>(hgc: &'a [u8]) -> &'a [u8]
+    ensures { λ r. ⌜ ListSequence (now (hgc .entry)) (now r) ⌝ }
+{
+    texts::field(hgc, places::SEQUENCE_FROM, places::SEQUENCE_TO)
 }
 
 pub fn reception<'a>(hgc: &'a [u8]) -> &'a [u8]
@@ -108,13 +114,9 @@ fn has_names(hgv: &[u8], hgc: &[u8]) -> bool
     ensures { λ r. ⌜ r ≡ namesHold (now (hgv .entry)) (now (hgc .entry)) ⌝ }
 {
     let sender = header::sender(hgv);
-    let sequence = texts::field(
-        hgv,
-        header::columns::SEQUENCE_FROM,
-        header::columns::SEQUENCE_TO,
-    );
+    let sequence = header::list_sequence(hgv);
     texts::has_text(hgc, places::RECEIVER_FROM, places::RECEIVER_TO, sender)
-        & texts::has_text(hgc, places::SEQUENCE_FROM, places::SEQUENCE_TO, sequence)
+        & texts::same(list_sequence(hgc), sequence)
 }
 
 fn has_outcome(hgv: &[u8], hgc: &[u8]) -> bool

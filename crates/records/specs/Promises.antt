@@ -6,8 +6,8 @@ use Rattle.records.specs.Slot.{written, putRecord}
 
 -- the slot after it
 abbrev pub WriteRecord : List ℕ → List ℕ → List ℕ → List ℕ → Type 0
-WriteRecord slot line reception after = after ≡ written reception line slot
+WriteRecord slot line stamp after = after ≡ written stamp line slot
 
 -- the register after it
 abbrev pub PutRecord : List ℕ → ℕ → List ℕ → List ℕ → List ℕ → Type 0
-PutRecord register i line reception after = after ≡ putRecord i reception line register
+PutRecord register i line stamp after = after ≡ putRecord i stamp line register

@@ -1,4 +1,5 @@
 pub mod Written
 pub mod Slot
 pub mod Holds
+pub mod Stamped
 pub mod Outcomes

@@ -12,13 +12,15 @@ use Rattle.theory.specs.Distinct.{distinct}
 use Rattle.sizes.specs.Sizes.{slotLength, slotEnd, slotsMost}
 use Rattle.texts.specs.Field.{field, lineEnd}
 use Rattle.fields.specs.Field.{zeroByte}
-use Rattle.columns.specs.Columns.{panOf}
+use Rattle.columns.specs.Columns.{actor, panOf}
 use Rattle.lines.specs.Rules.{recordHolds}
+use Rattle.stamps.specs.Stamp.{stampIn, stampHolds}
 use Rattle.slots.specs.Slots.{slotsIn, slotsOf, marked, records, usedIn}
 
--- a used slot is `1`, 126 bytes as body positions 2-127, LF; six-digit actor, and L1, L5 to L10 hold, but for the limits of weight
+-- a used slot is a record (`1`, 126 bytes as body positions 2-127, LF; six-digit actor, and L1, L5 to L10 hold, but for the
+-- limits of weight) and a stamp of its actor's
 unfoldable pub usedForm : List ℕ → Bool
-usedForm s = marked s && recordHolds s && eqs (field slotEnd slotEnd s) lineEnd
+usedForm s = marked s && recordHolds s && eqs (field slotEnd slotEnd s) lineEnd && stampHolds (actor s) (stampIn s)
 
 -- a free slot is zero bytes, as many as a slot has
 unfoldable pub freeForm : List ℕ → Bool

@@ -6,6 +6,8 @@ ghost use lib.ListN.{length};
 ghost use Rattle.theory.specs.laws.Parts.{partsFrom};
 ghost use Rattle.theory.specs.Walk.{each};
 ghost use Rattle.sizes.specs.Sizes.{slotLength};
+ghost use Rattle.columns.specs.Columns.{actor};
+ghost use Rattle.stamps.specs.Stamp.{stampIn, stampHolds};
 ghost use Rattle.slots.specs.Slots.{slotsOf};
 ghost use Rattle.register.specs.Register.{usedForm, freeForm};
 ghost use Rattle.register.specs.Promises.{InOrder};
@@ -17,12 +19,20 @@ const PANS: keys::Keys = keys::Keys {
     to: columns::PAN_TO,
 };
 
+fn is_stamped(s: &[u8]) -> bool
+    ensures { λ r. ⌜ r ≡ stampHolds (actor (now (s .entry))) (stampIn (now (s .entry))) ⌝ }
+{
+    let stamp = texts::field(s, sizes::STAMP_FROM, sizes::SLOT);
+    stamps::is_stamp(stamp, texts::field(s, columns::ACTOR_FROM, columns::ACTOR_TO))
+}
+
 fn is_used(s: &[u8]) -> bool
     ensures { λ r. ⌜ r ≡ usedForm (now (s .entry)) ⌝ }
 {
     slots::is_marked(s)
         & lines::is_record(s)
         & texts::has_text(s, sizes::SLOT_END, sizes::SLOT_END, b"\n")
+        & is_stamped(s)
 }
 
 fn is_free(s: &[u8]) -> bool

@@ -30,12 +30,18 @@ hgcHeaderLength = 110
 abbrev pub reasonLength : ℕ
 reasonLength = 2
 
--- the register: slots of 128 bytes, 0 to 8,192 of them, and the position of a used slot's LF
+-- the register: slots of 168 bytes, 0 to 8,192 of them; in a used one a record, with its LF at 128, and its stamp of 40
 abbrev pub slotLength : ℕ
-slotLength = 128
+slotLength = 168
 
 abbrev pub slotEnd : ℕ
 slotEnd = 128
+
+abbrev pub stampLength : ℕ
+stampLength = 40
+
+abbrev pub stampFrom : ℕ
+stampFrom = 129
 
 abbrev pub slotsMost : ℕ
 slotsMost = partsMost

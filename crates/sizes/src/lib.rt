@@ -18,10 +18,14 @@ pub const HGC_HEADER: usize = 110;
 
 pub const REASON: usize = 2;
 
-// The register: a slot of it, and the position of a used slot's LF.
-pub const SLOT: usize = 128;
+// The register: a slot of it, which is a record, with its LF at this position, and the stamp behind it.
+pub const SLOT: usize = 168;
 
 pub const SLOT_END: usize = 128;
+
+pub const STAMP: usize = 40;
+
+pub const STAMP_FROM: usize = SLOT_END + 1;
 
 pub const SLOTS_MOST: usize = PARTS_MOST;
 

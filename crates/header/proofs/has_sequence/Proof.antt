@@ -4,7 +4,7 @@ use Rattle.header.proofs.has_sequence.Statement.{statement}
 use Rattle.header.proofs.has_sequence.Tie as tie
 
 returns : tie.Need-returns
-returns c = rw (c .is-sequence .ensures, c .before .sender .ensures, c .before .before .field .ensures)
+returns c = rw (c .is-sequence .ensures, c .before .sender .ensures, c .before .before .list-sequence .ensures)
 
 pub has-sequence-spec : {M : Type 1} → statement M
 has-sequence-spec =

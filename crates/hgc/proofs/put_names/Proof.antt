@@ -13,14 +13,14 @@ put-field-requires-3 c κs =
 put-field-requires-4 : tie.Need-put-field-requires-4
 put-field-requires-4 c κs =
     let f = c .before .before .before .before .before .before .before .before .before .before .before .before .before .before .before in
-    let n = wide 14 32 _ _ (f .field .ensures) (omega arith) (omega arith) in (omega arith, omega arith)
+    let n = wide 14 32 _ _ (f .list-sequence .ensures) (omega arith) (omega arith) in (omega arith, omega arith)
 
 returns : tie.Need-returns
 returns c =
     let e = c .before .before .before .before .before .before .before .before .before .before in
     let f = e .before .before .before .before .before .before .before .before .before .before .before .before in
     let p = f .before .before .before .before .before .pre in
-    names-written _ _ _ _ _ _ _ _ _ _ (p .0) (p .1 .0) (p .1 .1) (f .before .sender .ensures) (f .field .ensures)
+    names-written _ _ _ _ _ _ _ _ _ _ (p .0) (p .1 .0) (p .1 .1) (f .before .sender .ensures) (f .list-sequence .ensures)
     (e .before .before .before .before .before .before .before .before .before .put-field .ensures) (e .before .before .before .before .put-field2 .ensures) (e .put-field3 .ensures)
     (c .before .before .before .before .before .before .put-field4 .ensures) (c .before .before .put-field5 .ensures)
 

@@ -27,7 +27,7 @@ use Rattle.hgv.specs.Layout.{widthOf}
 use Rattle.header.specs.Header.{sender, listSequence, headerHolds}
 use Rattle.header.specs.laws.Header.{header-sender, header-list}
 use Rattle.hgc.specs.Confirmation.{outcome}
-use Rattle.receipts.specs.Receipt.{answersIn, answersOf, receptionOf, takenOf, rejectedOf, lengthForm, headForm, answerForm, formHolds, namesHold, outcomeHolds, reasonHolds, saysHold}
+use Rattle.receipts.specs.Receipt.{answersIn, answersOf, listOf, receptionOf, takenOf, rejectedOf, lengthForm, headForm, answerForm, formHolds, namesHold, outcomeHolds, reasonHolds, saysHold}
 
 -- ---- the clauses, field by field
 
@@ -41,7 +41,7 @@ abbrev receiverIs : List ℕ → List ℕ → Bool
 receiverIs h g = eqs (field 8 13 g) (sender h)
 
 abbrev listIs : List ℕ → List ℕ → Bool
-listIs h g = eqs (field 14 32 g) (listSequence h)
+listIs h g = eqs (listOf g) (listSequence h)
 
 abbrev receptionReal : List ℕ → Bool
 receptionReal g = realTime (receptionOf g)
@@ -103,8 +103,8 @@ outcome-held h g = go (answersIn h g)
     )
 
 module _ (h : List ℕ) (form : headerHolds h ≡ true) (g : List ℕ) where
-  list-held : listIs h g ≡ true → Each (Held (field 14 32 g)) (sequenceSpans (listIs h))
-  list-held e = rw (eqs-true (field 14 32 g) (listSequence h) e) (sequence-covered (listIs h) (sender h) (listSequence h) (header-sender h form) (header-list h form))
+  list-held : listIs h g ≡ true → Each (Held (listOf g)) (sequenceSpans (listIs h))
+  list-held e = rw (eqs-true (listOf g) (listSequence h) e) (sequence-covered (listIs h) (sender h) (listSequence h) (header-sender h form) (header-list h form))
 
   -- each clause holds only where its positions are there and hold what it admits
   pub head-fixed : Each (Fixes g) (headSpans h)

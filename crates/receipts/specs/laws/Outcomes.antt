@@ -4,7 +4,7 @@ use mathlib.Core.Bool.{Bool}
 use mathlib.Core.List.{List}
 use Prim.Native.Nat.{ℕ}
 use Rattle.theory.specs.laws.Outcome.{one-outcome}
-use Rattle.receipts.specs.Promises.{Width, AnswersIn, Answers, Reception, Says}
+use Rattle.receipts.specs.Promises.{Width, AnswersIn, Answers, ListSequence, Reception, Says}
 
 pub width-one : (h : List ℕ) (r s : ℕ) → Width h r → Width h s → r ≡ s
 width-one h r s = one-outcome
@@ -14,6 +14,9 @@ answers-in-one h g r s = one-outcome
 
 pub answers-one : (g r s : List ℕ) → Answers g r → Answers g s → r ≡ s
 answers-one g r s = one-outcome
+
+pub list-sequence-one : (g r s : List ℕ) → ListSequence g r → ListSequence g s → r ≡ s
+list-sequence-one g r s = one-outcome
 
 pub reception-one : (g r s : List ℕ) → Reception g r → Reception g s → r ≡ s
 reception-one g r s = one-outcome

@@ -11,7 +11,7 @@ returns c = unwritten _ _ _ (not-true _ (c .if1 .taken))
 fill-slot-requires : tie.Need-fill-slot-requires
 fill-slot-requires c κs =
     let x = c .before .before .before .before .before .args in
-    fitting (x .reception .now) (x .line .now) (x .slot .now) (not-false _ (c .before .if1 .left))
+    fitting (x .stamp .now) (x .line .now) (x .slot .now) (not-false _ (c .before .if1 .left))
 
 returns-2 : tie.Need-returns-2
 returns-2 c = filled _ _ _ (not-false _ (c .before .before .before .before .if1 .left)) _ (c .before .before .fill-slot .ensures)

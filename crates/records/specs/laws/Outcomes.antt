@@ -5,10 +5,10 @@ use Prim.Native.Nat.{ℕ}
 use Rattle.theory.specs.laws.Outcome.{one-outcome}
 use Rattle.records.specs.Promises.{WriteRecord, PutRecord}
 
-pub write-record-one : (slot line reception r s : List ℕ)
-    → WriteRecord slot line reception r → WriteRecord slot line reception s → r ≡ s
-write-record-one slot line reception r s = one-outcome
+pub write-record-one : (slot line stamp r s : List ℕ)
+    → WriteRecord slot line stamp r → WriteRecord slot line stamp s → r ≡ s
+write-record-one slot line stamp r s = one-outcome
 
-pub put-record-one : (register : List ℕ) (i : ℕ) (line reception r s : List ℕ)
-    → PutRecord register i line reception r → PutRecord register i line reception s → r ≡ s
-put-record-one register i line reception r s = one-outcome
+pub put-record-one : (register : List ℕ) (i : ℕ) (line stamp r s : List ℕ)
+    → PutRecord register i line stamp r → PutRecord register i line stamp s → r ≡ s
+put-record-one register i line stamp r s = one-outcome

@@ -8,19 +8,18 @@ use Rattle.theory.specs.Parts.{partAt}
 use Rattle.theory.specs.laws.Parts.{whole-fits, length-part}
 use Rattle.theory.specs.Put.{putPart}
 use Rattle.theory.specs.laws.Put.{put-ap}
-use Rattle.sizes.specs.Sizes.{slotLength, timeLength}
-use Rattle.lines.specs.End.{recordOf}
+use Rattle.sizes.specs.Sizes.{slotLength, stampLength}
 use Rattle.slots.specs.Slots.{slotsIn}
-use Rattle.records.specs.Slot.{lineLeast, fits, written, putRecord}
+use Rattle.records.specs.Slot.{lineLeast, slotOf, fits, written, putRecord}
 
--- ---- where they fit, the record is written
+-- ---- where they fit, the record and the stamp are written
 
-module _ (reception l : List ℕ) (long : lineLeast ≤ length l) (dated : length reception ≡ timeLength) where
-  pub written-there : (slot : List ℕ) → length slot ≡ slotLength → written reception l slot ≡ recordOf reception l
+module _ (s l : List ℕ) (long : lineLeast ≤ length l) (sized : length s ≡ stampLength) where
+  pub written-there : (slot : List ℕ) → length slot ≡ slotLength → written s l slot ≡ slotOf s l
   unfolding written fits
-  written-there slot h = rw (eq-eqb (length slot) slotLength h, le-leb lineLeast (length l) long, eq-eqb (length reception) timeLength dated)
+  written-there slot h = rw (eq-eqb (length slot) slotLength h, le-leb lineLeast (length l) long, eq-eqb (length s) stampLength sized)
 
-  pub put-there : (i : ℕ) (b : List ℕ) → i < slotsIn b → putRecord i reception l b ≡ putPart slotLength i (recordOf reception l) b
+  pub put-there : (i : ℕ) (b : List ℕ) → i < slotsIn b → putRecord i s l b ≡ putPart slotLength i (slotOf s l) b
   unfolding putRecord
   put-there i b h =
       rw (lt-ltb i (slotsIn b) h)

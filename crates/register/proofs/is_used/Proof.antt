@@ -6,7 +6,7 @@ use Rattle.register.proofs.is_used.Tie as tie
 
 returns : tie.Need-returns
 unfolding usedForm
-returns c = rw (c .has-text .ensures, c .before .before .is-record .ensures, c .before .before .before .is-marked .ensures)
+returns c = rw (c .is-stamped .ensures, c .before .has-text .ensures, c .before .before .before .is-record .ensures, c .before .before .before .before .is-marked .ensures)
 
 pub is-used-spec : {M : Type 1} → statement M
 is-used-spec =
@@ -15,5 +15,6 @@ is-used-spec =
     (λ c κs. search needs)
     (λ c κs. search needs)
     (λ c. search needs)
+    (λ c κs. search needs)
     (λ c κs. search needs)
     returns)

@@ -29,8 +29,9 @@ use Rattle.theory.specs.laws.Place.{drop-chop}
 use Rattle.sizes.specs.Sizes.{slotLength, slotEnd, slotsMost}
 use Rattle.texts.specs.Field.{field, lineEnd}
 use Rattle.fields.specs.Field.{zeroByte}
-use Rattle.columns.specs.Columns.{panOf}
+use Rattle.columns.specs.Columns.{actor, panOf}
 use Rattle.lines.specs.Rules.{recordHolds}
+use Rattle.stamps.specs.Stamp.{stampIn, stampHolds}
 use Rattle.slots.specs.Slots.{slotsIn, slotsOf, marked, records, usedIn}
 use Rattle.slots.specs.laws.Slots.{used-most, records-chop, used-fits}
 use Rattle.register.specs.Register.{usedForm, freeForm, inOrder}
@@ -109,7 +110,15 @@ module _ (b : List ℕ) where
 
 marked-used : (r : List ℕ) → usedForm r ≡ true → marked r ≡ true
 unfolding usedForm
-marked-used r h = and-left (marked r) (recordHolds r) (and-left (marked r && recordHolds r) (eqs (field slotEnd slotEnd r) lineEnd) h)
+marked-used r h =
+    and-left (marked r) (recordHolds r)
+    (and-left (marked r && recordHolds r) (eqs (field slotEnd slotEnd r) lineEnd)
+    (and-left ((marked r && recordHolds r) && eqs (field slotEnd slotEnd r) lineEnd) (stampHolds (actor r) (stampIn r)) h))
+
+-- a used slot has a stamp of its actor's
+pub used-stamped : (r : List ℕ) → usedForm r ≡ true → stampHolds (actor r) (stampIn r) ≡ true
+unfolding usedForm
+used-stamped r h = and-right ((marked r && recordHolds r) && eqs (field slotEnd slotEnd r) lineEnd) (stampHolds (actor r) (stampIn r)) h
 
 module _ (n : ℕ) {R : List (List ℕ)} (z : Each (λ r. length r ≡ slotLength) R) (l : length R ≤ n) where
   abbrev block : List ℕ

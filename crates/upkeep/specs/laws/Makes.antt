@@ -1,29 +1,18 @@
--- Records made of lines, by whatever makes them, and the records of lines that keep the rules. Assumes nothing.
+-- Records made of lines, by whatever makes them, and the slots of lines that can be stored. Assumes nothing.
 use mathlib.Core.Path.{_≡_, refl}
 use mathlib.Core.Bool.{true}
 use mathlib.Core.List.{List, map}
 use Prim.Native.Nat.{ℕ}
-use native.Mathlib.Omega.{arith}
 use Rattle.theory.specs.Each.{Each, none, more}
-use Rattle.times.specs.Time.{realTime}
-use Rattle.times.specs.laws.Moment.{real-length}
 use Rattle.columns.specs.Columns.{panOf}
-use Rattle.lines.specs.Rules.{recordHolds}
-use Rattle.lines.specs.End.{recordOf}
-use Rattle.records.specs.laws.Written.{record-front}
-use Rattle.records.specs.laws.Holds.{record-long}
+use Rattle.records.specs.Slot.{slotOf, storable}
+use Rattle.records.specs.laws.Stamped.{slot-length, slot-pan, slot-actor}
 use Rattle.upkeep.specs.Makes.{Makes}
-use Rattle.upkeep.specs.laws.Stays.{written-length, written-used}
+use Rattle.upkeep.specs.laws.Stays.{written-used}
 
--- the record of a line that keeps the rules of one
-pub record-makes : (reception : List ℕ) → realTime reception ≡ true → (l : List ℕ) → recordHolds l ≡ true → Makes (recordOf reception) l
-record-makes reception real l h =
-    record {
-      pan = record-front reception l (record-long l h) (real-length reception real) 14 32 (omega arith) (omega arith) (omega arith);
-      his = record-front reception l (record-long l h) (real-length reception real) 2 7 (omega arith) (omega arith) (omega arith);
-      size = written-length reception l h real;
-      used = written-used reception l h real;
-    }
+-- the slot of a line that can be stored under the stamp
+pub slot-makes : (s l : List ℕ) → storable s l ≡ true → Makes (slotOf s) l
+slot-makes s l h = record { pan = slot-pan s l h; his = slot-actor s l h; size = slot-length s l h; used = written-used s l h }
 
 module _ (make : List ℕ → List ℕ) where
   pub made-pans : {ls : List (List ℕ)} → Each (Makes make) ls → map panOf (map make ls) ≡ map panOf ls

@@ -23,14 +23,9 @@ use Rattle.theory.specs.Pad.{pad}
 use Rattle.theory.specs.laws.Pad.{put-pad, push-pad}
 use Rattle.sizes.specs.Sizes.{slotLength, slotsMost}
 use Rattle.texts.specs.Field.{lineEnd}
-use Rattle.times.specs.Time.{realTime}
-use Rattle.times.specs.laws.Moment.{real-length}
 use Rattle.columns.specs.Columns.{panOf}
-use Rattle.lines.specs.Rules.{recordHolds}
-use Rattle.lines.specs.End.{recordOf}
-use Rattle.records.specs.laws.Written.{length-record, record-first, record-last}
-use Rattle.records.specs.laws.Holds.{record-long, record-holds}
-use Rattle.records.specs.Slot.{putRecord}
+use Rattle.records.specs.Slot.{slotOf, storable, putRecord}
+use Rattle.records.specs.laws.Stamped.{stamp-his, long, sized, slot-actor, slot-first, slot-last, slot-holds, slot-stamp}
 use Rattle.records.specs.laws.Slot.{put-there}
 use Rattle.closing.specs.Closing.{closedUp}
 use Rattle.closing.specs.laws.Closing.{closed-front}
@@ -42,24 +37,24 @@ use Rattle.upkeep.specs.Holds.{Holds}
 
 -- ---- what is written
 
-module _ (reception l : List ℕ) (h : recordHolds l ≡ true) (r : realTime reception ≡ true) where
-  pub written-length : length (recordOf reception l) ≡ slotLength
-  written-length = length-record reception l (record-long l h) (real-length reception r)
-
-  pub written-used : usedForm (recordOf reception l) ≡ true
+module _ (s l : List ℕ) (h : storable s l ≡ true) where
+  pub written-used : usedForm (slotOf s l) ≡ true
   unfolding usedForm marked
   written-used =
       rw (
-        record-first reception l (record-long l h) (real-length reception r),
-        record-last reception l (record-long l h) (real-length reception r),
-        record-holds reception l h r,
+        slot-first s l h,
+        slot-last s l h,
+        slot-holds s l h,
+        slot-actor s l h,
+        slot-stamp s l h,
+        stamp-his s l h,
         eqs-refl (bytes "1"),
         eqs-refl lineEnd,
       )
 
   -- and a writer of such a line writes it where there is a slot
-  pub written-put : (i : ℕ) (b : List ℕ) → i < slotsIn b → putRecord i reception l b ≡ putPart slotLength i (recordOf reception l) b
-  written-put = put-there reception l (record-long l h) (real-length reception r)
+  pub written-put : (i : ℕ) (b : List ℕ) → i < slotsIn b → putRecord i s l b ≡ putPart slotLength i (slotOf s l) b
+  written-put = put-there s l (long s l h) (sized s l h)
 
 -- ---- the register after
 
