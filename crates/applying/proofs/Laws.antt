@@ -11,12 +11,10 @@ use Rattle.theory.specs.Walk.{some}
 use Rattle.theory.specs.Parts.{partAt}
 use Rattle.theory.specs.Pick.{good}
 use Rattle.theory.specs.laws.Place.{place-some}
-use Rattle.times.specs.Time.{realTime}
 use Rattle.sizes.specs.Sizes.{full, slotsMost}
 use Rattle.sizes.specs.Modes.{isFull}
 use Rattle.columns.specs.Columns.{panOf}
-use Rattle.lines.specs.Rules.{recordHolds}
-use Rattle.lines.specs.End.{recordOf}
+use Rattle.records.specs.Slot.{slotOf, storable}
 use Rattle.slots.specs.Slots.{slotsIn, records, usedIn}
 use Rattle.register.specs.Register.{inOrder}
 use Rattle.slots.specs.Search.{holdsPan, placeOf}
@@ -52,14 +50,14 @@ module _ (R : List (List ℕ)) (n : ℕ) (e : n ≡ length R) (pan : List ℕ) (
   stands-nowhere : some (holdsPan pan) R ≡ false → n ≤ f → Stands n R pan f
   stands-nowhere p l = record { held = λ k. absurd (omega arith); new = λ k. p }
 
-module _ (mode : ℕ) (who reception b : List ℕ) (width : ℕ) (lines vs found : List ℕ) (o : inOrder b ≡ true) (real : realTime reception ≡ true)
-    (k : Each (λ l. recordHolds l ≡ true) (takenIn width vs lines)) (f : Fit mode who (recordOf reception) (slotsIn b) (records b) (takenIn width vs lines))
-    (s : Sought mode (records b) width lines vs found) (b₁ : List ℕ) (used : ℕ) (p : Left (slotsIn b) (prepared mode who (records b)) b₁ used) where
+module _ (mode : ℕ) (who s b : List ℕ) (width : ℕ) (lines vs found : List ℕ) (o : inOrder b ≡ true)
+    (k : Each (λ l. storable s l ≡ true) (takenIn width vs lines)) (f : Fit mode who (slotOf s) (slotsIn b) (records b) (takenIn width vs lines))
+    (t : Sought mode (records b) width lines vs found) (b₁ : List ℕ) (used : ℕ) (p : Left (slotsIn b) (prepared mode who (records b)) b₁ used) where
   counted : used ≡ usedIn b₁
   counted = p .counted ∙ ap length (sym (p .holds .held))
 
-  leads-on : storedAll (records b₁) (map (recordOf reception) (takenIn width vs lines)) ≡ holdings mode who (recordOf reception) (records b) (takenIn width vs lines)
-  leads-on = rw (p .holds .held) (prepared-stored mode who (recordOf reception) (slotsIn b) (records b) (takenIn width vs lines) f)
+  leads-on : storedAll (records b₁) (map (slotOf s) (takenIn width vs lines)) ≡ holdings mode who (slotOf s) (records b) (takenIn width vs lines)
+  leads-on = rw (p .holds .held) (prepared-stored mode who (slotOf s) (slotsIn b) (records b) (takenIn width vs lines) f)
 
   used-few : used ≤ slotsMost
   used-few = omega (arith, counted, used-most b₁, ordered b₁ (p .holds .order) .most)
@@ -71,22 +69,21 @@ module _ (mode : ℕ) (who reception b : List ℕ) (width : ℕ) (lines vs found
       go : (t : Bool) → isFull mode ≡ t → records b₁ ≡ cond t (others who (records b)) (records b) → Stands used (records b₁) (panOf (partAt width i lines)) (getD found i 0)
       go true m q =
           stands-nowhere (records b₁) used counted _ _
-          (rw q (each-taken width vs lines _ i l g (each-new mode who (recordOf reception) (slotsIn b) (records b) (takenIn width vs lines) f)))
-          (omega (arith, used-few, s .none m i l))
-      go false m q = stands-found (records b₁) used counted _ _ (rw q (places-tell (records b) width lines vs found (s .places m) .told i l g))
+          (rw q (each-taken width vs lines _ i l g (each-new mode who (slotOf s) (slotsIn b) (records b) (takenIn width vs lines) f)))
+          (omega (arith, used-few, t .none m i l))
+      go false m q = stands-found (records b₁) used counted _ _ (rw q (places-tell (records b) width lines vs found (t .places m) .told i l g))
 
-  pub can-store : CanStore reception b₁ used width lines vs found
+  pub can-store : CanStore s b₁ used width lines vs found
   can-store =
       record {
         order = p .holds .order;
         counted = counted;
-        received = real;
         lined = k;
         apart = f .apart;
         room = rw (leads-on, p .holds .many) (f .room);
         placed = stands;
       }
 
-  pub applied : (b₂ : List ℕ) → Holds (slotsIn b₁) (storedAll (records b₁) (map (recordOf reception) (takenIn width vs lines))) b₂
-      → Holds (slotsIn b) (holdings mode who (recordOf reception) (records b) (takenIn width vs lines)) b₂
+  pub applied : (b₂ : List ℕ) → Holds (slotsIn b₁) (storedAll (records b₁) (map (slotOf s) (takenIn width vs lines))) b₂
+      → Holds (slotsIn b) (holdings mode who (slotOf s) (records b) (takenIn width vs lines)) b₂
   applied b₂ h = rw (leads-on, p .holds .many) at h

@@ -5,9 +5,9 @@ ghost use mathlib.Core.Bool.{true};
 ghost use Prim.Native.Nat.{_*_, _≤_};
 ghost use lib.ListN.{length};
 ghost use Rattle.theory.specs.Each.{Each};
-ghost use Rattle.times.specs.Time.{realTime};
-ghost use Rattle.lines.specs.Rules.{recordHolds};
-ghost use Rattle.lines.specs.End.{recordOf};
+ghost use Rattle.sizes.specs.Sizes.{timeLength};
+ghost use Rattle.stamps.specs.Stamp.{listLength, stamp};
+ghost use Rattle.records.specs.Slot.{slotOf, storable};
 ghost use Rattle.slots.specs.Slots.{slotsIn, records};
 ghost use Rattle.register.specs.Register.{inOrder};
 ghost use Rattle.taken.specs.Taken.{takenIn};
@@ -27,12 +27,13 @@ fn prepare(mode: u64, register: &mut [u8], who: &[u8]) -> usize
     slots::used_slots(register)
 }
 
-// The lines whose verdict is 0, of this sender and received at `reception`, applied to a register in order; `found` tells
-// where their PANs stand in it.
+// The lines whose verdict is 0, of this sender's list that was received at `reception`, applied to a register in order under
+// one stamp; `found` tells where their PANs stand in it.
 pub fn apply(
     mode: u64,
     register: &mut [u8],
     who: &[u8],
+    list: &[u8],
     reception: &[u8],
     lines: &[u8],
     width: usize,
@@ -41,12 +42,15 @@ pub fn apply(
 )
     requires lined { ⌜ length (now verdicts) * width ≤ length (now lines) ⌝ }
     requires ordered { ⌜ inOrder (now register) ≡ true ⌝ }
-    requires received { ⌜ realTime (now reception) ≡ true ⌝ }
-    requires kept { ⌜ Each (λ l. recordHolds l ≡ true) (takenIn width (now verdicts) (now lines)) ⌝ }
-    requires fit { ⌜ Fit mode (now who) (recordOf (now reception)) (slotsIn (now register)) (records (now register)) (takenIn width (now verdicts) (now lines)) ⌝ }
+    requires listed { ⌜ length (now list) ≡ listLength ⌝ }
+    requires received { ⌜ length (now reception) ≡ timeLength ⌝ }
+    requires kept { ⌜ Each (λ l. storable (stamp (now list) (now reception)) l ≡ true) (takenIn width (now verdicts) (now lines)) ⌝ }
+    requires fit { ⌜ Fit mode (now who) (slotOf (stamp (now list) (now reception))) (slotsIn (now register)) (records (now register)) (takenIn width (now verdicts) (now lines)) ⌝ }
     requires sought { ⌜ Sought mode (records (now register)) width (now lines) (now verdicts) (now found) ⌝ }
-    ensures { λ _. ⌜ Apply mode (now (register .entry)) (now (who .entry)) (now (reception .entry)) (now (lines .entry)) width (now (verdicts .entry)) (now (register .exit)) ⌝ }
+    ensures { λ _. ⌜ Apply mode (now (register .entry)) (now (who .entry)) (now (list .entry)) (now (reception .entry)) (now (lines .entry)) width (now (verdicts .entry)) (now (register .exit)) ⌝ }
 {
+    let mut stamp = [0u8; sizes::STAMP];
+    stamps::write_stamp(&mut stamp, list, reception);
     let used = prepare(mode, register, who);
-    storing::store_all(register, used, lines, width, verdicts, reception, found);
+    storing::store_all(register, used, lines, width, verdicts, &stamp, found);
 }

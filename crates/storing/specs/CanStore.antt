@@ -9,10 +9,8 @@ use Rattle.theory.specs.Walk.{some}
 use Rattle.theory.specs.Parts.{partAt}
 use Rattle.theory.specs.Pick.{good}
 use Rattle.theory.specs.Distinct.{distinct}
-use Rattle.times.specs.Time.{realTime}
 use Rattle.columns.specs.Columns.{panOf}
-use Rattle.lines.specs.Rules.{recordHolds}
-use Rattle.lines.specs.End.{recordOf}
+use Rattle.records.specs.Slot.{slotOf, storable}
 use Rattle.slots.specs.Slots.{slotsIn, records, usedIn}
 use Rattle.register.specs.Register.{inOrder}
 use Rattle.slots.specs.Search.{holdsPan, placeOf}
@@ -25,15 +23,14 @@ pub record Stands (n : ℕ) (R : List (List ℕ)) (pan : List ℕ) (f : ℕ) : T
   pub new : n ≤ f → some (holdsPan pan) R ≡ false
 
 -- the register b, of which `first` slots are used, and the lines of this width whose verdicts are 0
-pub record CanStore (reception b : List ℕ) (first width : ℕ) (lines vs found : List ℕ) : Type 0 where
+pub record CanStore (stamp b : List ℕ) (first width : ℕ) (lines vs found : List ℕ) : Type 0 where
   pub order : inOrder b ≡ true
   pub counted : first ≡ usedIn b
-  pub received : realTime reception ≡ true
-  -- each keeps the rules of a record
-  pub lined : Each (λ l. recordHolds l ≡ true) (takenIn width vs lines)
+  -- each keeps the rules of a record, and the stamp is its actor's
+  pub lined : Each (λ l. storable stamp l ≡ true) (takenIn width vs lines)
   -- no two have one PAN
   pub apart : distinct (map panOf (takenIn width vs lines)) ≡ true
   -- there are slots enough
-  pub room : length (storedAll (records b) (map (recordOf reception) (takenIn width vs lines))) ≤ slotsIn b
+  pub room : length (storedAll (records b) (map (slotOf stamp) (takenIn width vs lines))) ≤ slotsIn b
   -- and it is told where their PANs stand
   pub placed : (i : ℕ) → i < length vs → good (getD vs i 0) ≡ true → Stands first (records b) (panOf (partAt width i lines)) (getD found i 0)

@@ -9,7 +9,7 @@ ghost use Rattle.theory.specs.Count.{bump};
 ghost use Rattle.theory.specs.Pick.{good};
 ghost use Rattle.sizes.specs.Sizes.{slotsMost};
 ghost use Rattle.columns.specs.Columns.{panOf};
-ghost use Rattle.lines.specs.End.{recordOf};
+ghost use Rattle.records.specs.Slot.{slotOf};
 ghost use Rattle.slots.specs.Slots.{slotsIn, records};
 ghost use Rattle.holdings.specs.Holdings.{stored};
 ghost use Rattle.upkeep.specs.Holds.{Left};
@@ -42,15 +42,15 @@ fn store(
     used: usize,
     first: usize,
     line: &[u8],
-    reception: &[u8],
+    stamp: &[u8],
     place: usize,
 ) -> usize
-    requires ready { ⌜ Ready true (now reception) (now line) (now register) used ⌝ }
+    requires ready { ⌜ Ready true (now stamp) (now line) (now register) used ⌝ }
     requires placed { ⌜ Stands first (records (now register)) (panOf (now line)) place ⌝ }
-    ensures { λ r. ⌜ Left (slotsIn (now (register .entry))) (stored (recordOf (now (reception .entry)) (now (line .entry))) (records (now (register .entry)))) (now (register .exit)) r ⌝ }
+    ensures { λ r. ⌜ Left (slotsIn (now (register .entry))) (stored (slotOf (now (stamp .entry)) (now (line .entry))) (records (now (register .entry)))) (now (register .exit)) r ⌝ }
 {
     let slot = place_or_next(place, first, used);
-    records::put_record(register, slot, line, reception);
+    records::put_record(register, slot, line, stamp);
     next_used(used, slot)
 }
 
@@ -61,17 +61,17 @@ fn take_line(
     first: usize,
     verdict: u8,
     line: &[u8],
-    reception: &[u8],
+    stamp: &[u8],
     place: usize,
 ) -> usize
-    requires ready { ⌜ Ready (good verdict) (now reception) (now line) (now register) used ⌝ }
+    requires ready { ⌜ Ready (good verdict) (now stamp) (now line) (now register) used ⌝ }
     requires placed { ⌜ (good verdict ≡ true → Stands first (records (now register)) (panOf (now line)) place) ⌝ }
-    ensures { λ r. ⌜ Left (slotsIn (now (register .entry))) (storedIf (good verdict) (recordOf (now (reception .entry)) (now (line .entry))) (records (now (register .entry)))) (now (register .exit)) r ⌝ }
+    ensures { λ r. ⌜ Left (slotsIn (now (register .entry))) (storedIf (good verdict) (slotOf (now (stamp .entry)) (now (line .entry))) (records (now (register .entry)))) (now (register .exit)) r ⌝ }
 {
     if verdict != 0 {
         return used;
     }
-    store(register, used, first, line, reception, place)
+    store(register, used, first, line, stamp, place)
 }
 
 // The lines whose verdict is 0, one after the other, in a register of which the first slots are used.
@@ -81,20 +81,20 @@ pub fn store_all(
     lines: &[u8],
     width: usize,
     verdicts: &[u8],
-    reception: &[u8],
+    stamp: &[u8],
     found: &[u16],
 )
     requires lined { ⌜ length (now verdicts) * width ≤ length (now lines) ⌝ }
     requires judged { ⌜ length (now found) ≡ length (now verdicts) ⌝ }
-    requires storing { ⌜ CanStore (now reception) (now register) first width (now lines) (now verdicts) (now found) ⌝ }
-    ensures { λ _. ⌜ StoreAll (now (register .entry)) (now (lines .entry)) width (now (verdicts .entry)) (now (reception .entry)) (now (register .exit)) ⌝ }
+    requires storing { ⌜ CanStore (now stamp) (now register) first width (now lines) (now verdicts) (now found) ⌝ }
+    ensures { λ _. ⌜ StoreAll (now (register .entry)) (now (lines .entry)) width (now (verdicts .entry)) (now (stamp .entry)) (now (register .exit)) ⌝ }
 {
     let mut used = first;
     let mut i: usize = 0;
     while i < verdicts.len() {
         let line = texts::part(lines, width, i);
         let place = holdings::place_at(found, i);
-        used = take_line(register, used, first, verdicts[i], line, reception, place);
+        used = take_line(register, used, first, verdicts[i], line, stamp, place);
         i += 1;
     }
 }

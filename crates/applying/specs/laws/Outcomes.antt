@@ -5,6 +5,6 @@ use Prim.Native.Nat.{ℕ}
 use Rattle.theory.specs.laws.Outcome.{one-outcome}
 use Rattle.applying.specs.Promises.{Apply}
 
-pub apply-one : (mode : ℕ) (b who reception lines : List ℕ) (width : ℕ) (vs r s : List ℕ)
-    → Apply mode b who reception lines width vs r → Apply mode b who reception lines width vs s → r ≡ s
-apply-one mode b who reception lines width vs r s h k = one-outcome (h .bytes) (k .bytes)
+pub apply-one : (mode : ℕ) (b who list reception lines : List ℕ) (width : ℕ) (vs r s : List ℕ)
+    → Apply mode b who list reception lines width vs r → Apply mode b who list reception lines width vs s → r ≡ s
+apply-one mode b who list reception lines width vs r s h k = one-outcome (h .bytes) (k .bytes)

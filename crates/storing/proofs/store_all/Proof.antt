@@ -7,7 +7,7 @@ use borrow.Author.Needs.{needs}
 use lib.ListN.{length}
 use Rattle.theory.specs.laws.Among.{takenFrom}
 use Rattle.theory.specs.laws.Parts.{part-fits}
-use Rattle.lines.specs.End.{recordOf}
+use Rattle.records.specs.Slot.{slotOf}
 use Rattle.slots.specs.Slots.{records, slotsIn}
 use Rattle.taken.specs.Taken.{takenIn}
 use Rattle.holdings.specs.Holdings.{storedAll}
@@ -18,13 +18,13 @@ use Rattle.storing.proofs.store_all.Statement.{statement}
 use Rattle.storing.proofs.store_all.Tie as tie
 
 abbrev Inv-loop : tie.InvT-loop
-Inv-loop register₀ first lines width verdicts reception found used₀ i₀ register used i =
+Inv-loop register₀ first lines width verdicts stamp found used₀ i₀ register used i =
     (i ≤ length verdicts)
-    × Storing reception (slotsIn register₀) (storedAll (records register₀) (map (recordOf reception) (takenIn width verdicts lines))) (takenFrom width (length verdicts) verdicts lines i) register used
+    × Storing stamp (slotsIn register₀) (storedAll (records register₀) (map (slotOf stamp) (takenIn width verdicts lines))) (takenFrom width (length verdicts) verdicts lines i) register used
     × Standing width verdicts lines first (records register) found i
 
 abbrev μ-loop : tie.MeasureT-loop
-μ-loop register₀ first lines width verdicts reception found used₀ i₀ register used i = length verdicts - i
+μ-loop register₀ first lines width verdicts stamp found used₀ i₀ register used i = length verdicts - i
 
 loop-holds : tie.Need-loop-holds Inv-loop μ-loop
 loop-holds c =
