@@ -73,17 +73,20 @@ module _ (mode : ℕ) (who s b : List ℕ) (width : ℕ) (lines vs found : List 
           (omega (arith, used-few, t .none m i l))
       go false m q = stands-found (records b₁) used counted _ _ (rw q (places-tell (records b) width lines vs found (t .places m) .told i l g))
 
-  pub can-store : CanStore s b₁ used width lines vs found
-  can-store =
-      record {
-        order = p .holds .order;
-        counted = counted;
-        lined = k;
-        apart = f .apart;
-        room = rw (leads-on, p .holds .many) (f .room);
-        placed = stands;
-      }
+  -- x is the stamp as it was written
+  module _ (x : List ℕ) (written : x ≡ s) where
+    pub can-store : CanStore x b₁ used width lines vs found
+    can-store =
+        rw written
+        record {
+          order = p .holds .order;
+          counted = counted;
+          lined = k;
+          apart = f .apart;
+          room = rw (leads-on, p .holds .many) (f .room);
+          placed = stands;
+        }
 
-  pub applied : (b₂ : List ℕ) → Holds (slotsIn b₁) (storedAll (records b₁) (map (slotOf s) (takenIn width vs lines))) b₂
-      → Holds (slotsIn b) (holdings mode who (slotOf s) (records b) (takenIn width vs lines)) b₂
-  applied b₂ h = rw (leads-on, p .holds .many) at h
+    pub applied : (b₂ : List ℕ) → Holds (slotsIn b₁) (storedAll (records b₁) (map (slotOf x) (takenIn width vs lines))) b₂
+        → Holds (slotsIn b) (holdings mode who (slotOf s) (records b) (takenIn width vs lines)) b₂
+    applied b₂ h = rw (written, leads-on, p .holds .many) at h
