@@ -5,7 +5,7 @@ use mathlib.Core.Bool.{true, false}
 use mathlib.Core.List.{List, [], _++_}
 use Prim.Native.Nat.{ℕ, _+_, _≤_, _<_}
 use lib.ListN.{length, take, drop, getD}
-use Rattle.lines.specs.End.{recordOf}
+use Rattle.records.specs.Slot.{slotOf}
 use Rattle.theory.specs.First.{Fits}
 use Rattle.theory.specs.laws.First.{first-fits}
 use Rattle.theory.specs.Parts.{partAt}
@@ -58,7 +58,7 @@ module _ (f : Handed) (register : List ℕ) (r : Imported) (b g : List ℕ) (o :
   Judged vs = Verdicts (f .rows) (sender (f .hgv)) (records register) (linesOf (f .hgv)) vs
 
   -- "The register then holds exactly the accounts that follow,"
-  pub records-are : (vs : List ℕ) → Judged vs → records b ≡ holdings (f .mode) (sender (f .hgv)) (recordOf (f .reception)) (records register) (pick good vs (linesOf (f .hgv)))
+  pub records-are : (vs : List ℕ) → Judged vs → records b ≡ holdings (f .mode) (sender (f .hgv)) (slotOf (fileStamp f)) (records register) (pick good vs (linesOf (f .hgv)))
   records-are vs v = laws.records-are f register r b g o z vs v
 
   -- behind its records it is free slots, as many slots as before, and in order again

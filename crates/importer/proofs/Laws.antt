@@ -11,12 +11,13 @@ use Rattle.theory.specs.Each.{Each}
 use Rattle.theory.specs.Pick.{good, bad}
 use Rattle.theory.specs.Tally.{tally}
 use Rattle.theory.specs.laws.Tally.{tallies}
-use Rattle.header.specs.Header.{sender}
+use Rattle.header.specs.Header.{sender, listSequence}
+use Rattle.header.specs.laws.Header.{header-list}
 use Rattle.times.specs.laws.Moment.{real-length}
-use Rattle.sizes.specs.Sizes.{slotsMost, lineMost, linesMost}
-use Rattle.times.specs.Time.{realTime}
-use Rattle.lines.specs.Rules.{recordHolds}
-use Rattle.lines.specs.End.{recordOf}
+use Rattle.sizes.specs.Sizes.{slotsMost, lineMost, linesMost, timeLength}
+use Rattle.sequences.specs.laws.Length.{sequence-length}
+use Rattle.stamps.specs.Stamp.{listLength, stamp}
+use Rattle.records.specs.Slot.{slotOf, storable}
 use Rattle.taken.specs.Taken.{takenIn}
 use Rattle.hgv.specs.Layout.{widthOf, linesIn, lengthHolds, body}
 use Rattle.slots.specs.Slots.{records, slotsIn, usedIn}
@@ -36,9 +37,9 @@ use Rattle.hgv.specs.laws.Layout.{is-width, lines-most}
 use Rattle.stops.specs.Stops.{formStop}
 use Rattle.stops.specs.laws.Clear.{clear}
 use Rattle.importer.specs.Handed.{Handed}
-use Rattle.importer.specs.Import.{judged, following, confirmed, judgedStops, success, registerWritten, hgcWritten}
+use Rattle.importer.specs.Import.{judged, following, shown, confirmed, judgedStops, success, registerWritten, hgcWritten}
 use Rattle.importer.specs.laws.Numbers.{Formed, Passed, judged-passed}
-use Rattle.importer.specs.laws.Accepted.{Accepted, verdict-each, lines-there, verdicts-most, lines-are, lines-hold, lines-made, lines-apart, lines-free, following-used, confirmed-length}
+use Rattle.importer.specs.laws.Accepted.{Accepted, verdict-each, lines-there, verdicts-most, lines-are, lines-storable, lines-made, lines-apart, lines-free, following-used, confirmed-length}
 
 -- vs are the verdicts, and r of them reject their line
 module _ (f : Handed) (register vs : List ℕ) (r : ℕ)
@@ -79,47 +80,51 @@ module _ (f : Handed) (register vs : List ℕ) (t r : ℕ) (found : List ℕ) (a
   c : Formed f register
   c = a .clear
 
-  -- from, ls and w are sender, body and width
-  module _ (from ls : List ℕ) (w : ℕ) (ef : from ≡ sender (f .hgv)) (el : ls ≡ body (f .hgv)) (ew : w ≡ widthOf (f .hgv)) where
+  -- from, list, ls and w are sender, list sequence, body and width
+  module _ (from list ls : List ℕ) (w : ℕ) (ef : from ≡ sender (f .hgv)) (es : list ≡ listSequence (f .hgv)) (el : ls ≡ body (f .hgv)) (ew : w ≡ widthOf (f .hgv)) where
     lines-taken : takenIn w vs ls ≡ taken (judged register (f .rows) (f .hgv)) (f .hgv)
     lines-taken = rw (el, ew) (lines-are f register c vs (a .verdicts))
 
     pub apply-fits : (length vs * w ≤ length ls)
         × ((inOrder register ≡ true)
-        × ((realTime (f .reception) ≡ true)
-        × (Each (λ l. recordHolds l ≡ true) (takenIn w vs ls)
-        × (Fit (f .mode) from (recordOf (f .reception)) (slotsIn register) (records register) (takenIn w vs ls) × Sought (f .mode) (records register) w ls vs found))))
+        × ((length list ≡ listLength)
+        × ((length (f .reception) ≡ timeLength)
+        × (Each (λ l. storable (stamp list (f .reception)) l ≡ true) (takenIn w vs ls)
+        × (Fit (f .mode) from (slotOf (stamp list (f .reception))) (slotsIn register) (records register) (takenIn w vs ls) × Sought (f .mode) (records register) w ls vs found)))))
     unfolding following
     apply-fits = (
       rw (el, ew) (lines-there f register c vs (a .verdicts)),
       (
         c .ordered,
         (
-          c .received,
+          rw es (sequence-length (sender (f .hgv)) (listSequence (f .hgv)) (header-list (f .hgv) (c .headed))),
           (
-            rw lines-taken (lines-hold f register c),
+            real-length (f .reception) (c .received),
             (
-              rw (lines-taken, ef)
-                  record {
-                    made = lines-made f register c;
-                    apart = lines-apart f register c;
-                    free = lines-free f register c;
-                    room = a .slots;
-                  },
-              rw (el, ew) (a .sought),
+              rw (lines-taken, es) (lines-storable f register c),
+              (
+                rw (lines-taken, ef, es)
+                    record {
+                      made = lines-made f register c;
+                      apart = lines-apart f register c;
+                      free = lines-free f register c;
+                      room = a .slots;
+                    },
+                rw (el, ew) (a .sought),
+              ),
             ),
           ),
         ),
       ),
     )
 
-    pub applied : (b : List ℕ) → Holds (slotsIn register) (holdings (f .mode) from (recordOf (f .reception)) (records register) (takenIn w vs ls)) b → b ≡ registerWritten f register
+    pub applied : (b : List ℕ) → Holds (slotsIn register) (holdings (f .mode) from (slotOf (stamp list (f .reception))) (records register) (takenIn w vs ls)) b → b ≡ registerWritten f register
     unfolding registerWritten following
-    applied b k = k .bytes ∙ rw (lines-taken, ef)
+    applied b k = k .bytes ∙ rw (lines-taken, ef, es)
 
-  pub write-fits : (length (f .reception) ≡ 14) × ((lengthHolds (f .hgv) ≡ true) × ((length vs ≡ linesIn (f .hgv)) × ((t ≡ tally good vs) × ((r ≡ tally bad vs) × (confirmationLength (widthOf (f .hgv)) r ≤ length (f .hgc))))))
+  pub write-fits : (length (shown f) ≡ 14) × ((lengthHolds (f .hgv) ≡ true) × ((length vs ≡ linesIn (f .hgv)) × ((t ≡ tally good vs) × ((r ≡ tally bad vs) × (confirmationLength (widthOf (f .hgv)) r ≤ length (f .hgc))))))
   write-fits = (
-    real-length (f .reception) (c .received),
+    real-length (shown f) (c .received),
     (
       c .sized,
       (
@@ -135,7 +140,7 @@ module _ (f : Handed) (register vs : List ℕ) (t r : ℕ) (found : List ℕ) (a
     ),
   )
 
-  pub hgc-is : (g : List ℕ) → g ≡ confirmation (f .reception) (f .hgv) vs ++ drop (length (confirmation (f .reception) (f .hgv) vs)) (f .hgc) → g ≡ hgcWritten f register
+  pub hgc-is : (g : List ℕ) → g ≡ confirmation (shown f) (f .hgv) vs ++ drop (length (confirmation (shown f) (f .hgv) vs)) (f .hgc) → g ≡ hgcWritten f register
   unfolding hgcWritten confirmed
   hgc-is g e = e ∙ rw (a .verdicts)
 

@@ -10,9 +10,10 @@ use Rattle.theory.specs.Join.{flat}
 use Rattle.theory.specs.Pad.{pad}
 use Rattle.theory.specs.Pick.{good, bad}
 use Rattle.theory.specs.Tally.{tally}
-use Rattle.header.specs.Header.{sender}
+use Rattle.header.specs.Header.{sender, listSequence}
 use Rattle.sizes.specs.Sizes.{slotLength}
-use Rattle.lines.specs.End.{recordOf}
+use Rattle.stamps.specs.Stamp.{stamp}
+use Rattle.records.specs.Slot.{slotOf}
 use Rattle.slots.specs.Slots.{slotsIn, records}
 use Rattle.verdicts.specs.Verdict.{fileVerdicts, taken}
 use Rattle.hgc.specs.Confirmation.{confirmation}
@@ -26,14 +27,22 @@ use Rattle.importer.specs.Handed.{Handed}
 unfoldable pub judged : List ℕ → List ℕ → List ℕ → List ℕ
 judged register rows h = fileVerdicts rows (records register) h
 
+-- what each taken line's slot is stamped with: the file's list, and when it was received
+abbrev pub fileStamp : Handed → List ℕ
+fileStamp f = stamp (listSequence (f .hgv)) (f .reception)
+
 -- the records that follow
 unfoldable pub following : Handed → List ℕ → List (List ℕ)
 following f register =
-    holdings (f .mode) (sender (f .hgv)) (recordOf (f .reception)) (records register) (taken (judged register (f .rows) (f .hgv)) (f .hgv))
+    holdings (f .mode) (sender (f .hgv)) (slotOf (fileStamp f)) (records register) (taken (judged register (f .rows) (f .hgv)) (f .hgv))
+
+-- when the file was received, as its sender is shown it
+abbrev pub shown : Handed → List ℕ
+shown f = f .reception
 
 -- the confirmation that answers the file
 unfoldable pub confirmed : Handed → List ℕ → List ℕ
-confirmed f register = confirmation (f .reception) (f .hgv) (judged register (f .rows) (f .hgv))
+confirmed f register = confirmation (shown f) (f .hgv) (judged register (f .rows) (f .hgv))
 
 -- 35 a full list that is too thin; 33 more used slots would follow than there are; 34 HGC buffer too short
 unfoldable pub judgedStops : Handed → List ℕ → List Rule

@@ -96,6 +96,7 @@ fn carry_out(
         mode,
         register,
         header::sender(hgv),
+        header::list_sequence(hgv),
         reception,
         hgv::body(hgv),
         hgv::width(hgv),

@@ -13,7 +13,7 @@ use Rattle.theory.specs.Join.{flat}
 use Rattle.theory.specs.laws.Join.{getD-chop}
 use Rattle.theory.specs.Pad.{pad}
 use Rattle.numbers.specs.Number.{number}
-use Rattle.lines.specs.End.{recordOf}
+use Rattle.records.specs.Slot.{slotOf}
 use Rattle.hgv.specs.Layout.{linesIn, linesOf}
 use Rattle.header.specs.Header.{sender, count}
 use Rattle.sizes.specs.Sizes.{slotLength}
@@ -28,7 +28,7 @@ use Rattle.sizes.specs.Modes.{isFull}
 use Rattle.holdings.specs.laws.Storing.{all-grows}
 use Rattle.upkeep.specs.Holds.{Holds}
 use Rattle.importer.specs.declared.Imported.{Imported}
-use Rattle.importer.specs.Import.{judged, following, confirmed, importNumber, success, hgcWritten}
+use Rattle.importer.specs.Import.{judged, fileStamp, following, confirmed, importNumber, success, hgcWritten}
 use Rattle.importer.specs.Promises.{Import}
 use Rattle.importer.specs.laws.Follows.{adds-up, holds-following, others-same, places-same}
 use Rattle.provider.specs.declared.Counted.{Counted}
@@ -77,7 +77,7 @@ module _ (f : Handed) (register : List ℕ) (r : Imported) (b g : List ℕ) (o :
   used-grows : isFull (f .mode) ≡ false → usedIn register ≤ usedIn b
   unfolding following holdings
   used-grows m =
-      rw (holds .held, m) (all-grows (map (recordOf (f .reception)) (taken (judged register (f .rows) (f .hgv)) (f .hgv))) (records register))
+      rw (holds .held, m) (all-grows (map (slotOf (fileStamp f)) (taken (judged register (f .rows) (f .hgv)) (f .hgv))) (records register))
 
   pub places-are : f .mode ≡ 1 → (i : ℕ) → i < usedIn register → ofActor from (partAt slotLength i register) ≡ false → partAt slotLength i b ≡ partAt slotLength i register
   unfolding isFull
@@ -101,7 +101,7 @@ module _ (f : Handed) (register : List ℕ) (r : Imported) (b g : List ℕ) (o :
     unfolding success
     rejected-is = ap (λ (a : Imported). a .rejected) (done-is f register r b g o z) ∙ ap (tally bad) verdicts-are
 
-    pub records-are : records b ≡ holdings (f .mode) from (recordOf (f .reception)) (records register) (pick good vs (linesOf (f .hgv)))
+    pub records-are : records b ≡ holdings (f .mode) from (slotOf (fileStamp f)) (records register) (pick good vs (linesOf (f .hgv)))
     unfolding following taken
     records-are = holds .held ∙ rw verdicts-are
 

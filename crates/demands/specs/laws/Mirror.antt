@@ -6,7 +6,7 @@ use mathlib.Core.List.{List}
 use Prim.Native.Nat.{ℕ, _≤_}
 use lib.ListN.{length}
 use borrow.Author.Tests.{le-ltb}
-use Rattle.lines.specs.End.{recordOf}
+use Rattle.records.specs.Slot.{slotOf}
 use Rattle.theory.specs.Same.{eqs}
 use Rattle.theory.specs.First.{first, choose}
 use Rattle.theory.specs.laws.Stopped.{at-success}
@@ -48,11 +48,11 @@ module _ (f : Handed) (register vs : List ℕ) (s : Sound f register vs) where
   -- is in order, and holds the records that follow
   pub after-holds : Holds (slotsIn register) (followingBy vs f register) after
   unfolding followingBy
-  after-holds = follows (f .mode) (sender (f .hgv)) (recordOf (f .reception)) register (taken vs (f .hgv)) (s .formed .ordered) (fit f register vs s)
+  after-holds = follows (f .mode) (sender (f .hgv)) (slotOf (fileStamp f)) register (taken vs (f .hgv)) (s .formed .ordered) (fit f register vs s)
 
   others-same : others (sender (f .hgv)) (followingBy vs f register) ≡ others (sender (f .hgv)) (records register)
   unfolding followingBy
-  others-same = others-stay (f .mode) (sender (f .hgv)) (recordOf (f .reception)) (slotsIn register) (records register) (taken vs (f .hgv)) (fit f register vs s) (s .his)
+  others-same = others-stay (f .mode) (sender (f .hgv)) (slotOf (fileStamp f)) (slotsIn register) (records register) (taken vs (f .hgv)) (fit f register vs s) (s .his)
 
   -- ---- another's copy
 
@@ -86,7 +86,7 @@ module _ (f : Handed) (register vs : List ℕ) (s : Sound f register vs) where
     his-own = rw (m .held) (passes-each (ofActor (sender (f .hgv))) (sift-passes (ofActor (sender (f .hgv))) (records register)))
 
     -- the records that follow in the copy, by the HGC's reception and the lines read off as taken
-    copied-is : copyFollowing entry copy ≡ holdings (f .mode) (sender (f .hgv)) (recordOf (f .reception)) (records copy) ls
+    copied-is : copyFollowing entry copy ≡ holdings (f .mode) (sender (f .hgv)) (slotOf (fileStamp f)) (records copy) ls
     unfolding copyFollowing
     copied-is = rw (reception-read f register vs s, taken-are f register vs s)
 
@@ -96,13 +96,13 @@ module _ (f : Handed) (register vs : List ℕ) (s : Sound f register vs) where
     copied-own =
         copied-is
         ∙ rw (m .held)
-        (sym (own-holdings (f .mode) (sender (f .hgv)) (recordOf (f .reception)) (slotsIn register) (records register) ls (fit f register vs s) (s .his)))
+        (sym (own-holdings (f .mode) (sender (f .hgv)) (slotOf (fileStamp f)) (slotsIn register) (records register) ls (fit f register vs s) (s .his)))
 
     -- the taken lines fit the copy
-    fit-copy : Fit (f .mode) (sender (f .hgv)) (recordOf (f .reception)) (slotsIn copy) (records copy) ls
+    fit-copy : Fit (f .mode) (sender (f .hgv)) (slotOf (fileStamp f)) (slotsIn copy) (records copy) ls
     fit-copy =
         rw (m .many, m .held)
-        (fit-own (f .mode) (sender (f .hgv)) (recordOf (f .reception)) (slotsIn register) (records register) ls (fit f register vs s) (s .his))
+        (fit-own (f .mode) (sender (f .hgv)) (slotOf (fileStamp f)) (slotsIn register) (records register) ls (fit f register vs s) (s .his))
 
     -- so 33 is not given
     room : length (copyFollowing entry copy) ≤ slotsIn copy
@@ -111,7 +111,7 @@ module _ (f : Handed) (register vs : List ℕ) (s : Sound f register vs) where
     -- and what follows is in order
     copy-holds : Holds (slotsIn copy) (copyFollowing entry copy) (copyWritten entry copy)
     unfolding copyWritten
-    copy-holds = rw copied-is (follows (f .mode) (sender (f .hgv)) (recordOf (f .reception)) copy ls (m .order) fit-copy)
+    copy-holds = rw copied-is (follows (f .mode) (sender (f .hgv)) (slotOf (fileStamp f)) copy ls (m .order) fit-copy)
 
     -- ---- the call
 

@@ -24,7 +24,7 @@ use Rattle.columns.specs.Columns.{text, panOf}
 use Rattle.vehicles.specs.Vehicle.{vehicleHolds}
 use Rattle.lines.specs.Rules.{rulesBy, recordHolds, L2}
 use Rattle.lines.specs.laws.Faultless.{passes-record}
-use Rattle.lines.specs.End.{recordOf}
+use Rattle.records.specs.Slot.{slotOf}
 use Rattle.hgv.specs.Layout.{widthOf, linesIn, linesOf}
 use Rattle.hgv.specs.laws.Layout.{width-has, length-lines, each-line}
 use Rattle.frames.specs.Frames.{framed, framesHold}
@@ -60,7 +60,7 @@ pub record Sound (f : Handed) (register vs : List ℕ) : Type 0 where
   pub room : length (followingBy vs f register) ≤ slotsIn register
 
 -- they fit the register
-pub fit : (f : Handed) (register vs : List ℕ) → Sound f register vs → Fit (f .mode) (sender (f .hgv)) (recordOf (f .reception)) (slotsIn register) (records register) (taken vs (f .hgv))
+pub fit : (f : Handed) (register vs : List ℕ) → Sound f register vs → Fit (f .mode) (sender (f .hgv)) (slotOf (fileStamp f)) (slotsIn register) (records register) (taken vs (f .hgv))
 unfolding followingBy
 fit f register vs s =
     record {

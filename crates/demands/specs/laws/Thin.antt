@@ -20,7 +20,7 @@ use Rattle.theory.specs.laws.Tally.{tallies}
 use Rattle.sizes.specs.Sizes.{full}
 use Rattle.sizes.specs.Modes.{isFull}
 use Rattle.columns.specs.Columns.{panOf}
-use Rattle.lines.specs.End.{recordOf}
+use Rattle.records.specs.Slot.{slotOf}
 use Rattle.header.specs.Header.{sender}
 use Rattle.hgv.specs.Layout.{linesIn, linesOf}
 use Rattle.hgv.specs.laws.Layout.{length-lines}
@@ -35,7 +35,7 @@ use Rattle.stops.specs.Stops.{callStops, fileStops, formStops, formStop}
 use Rattle.stops.specs.laws.Clear.{clear}
 use Rattle.importer.specs.declared.Imported.{Imported}
 use Rattle.importer.specs.Handed.{Handed}
-use Rattle.importer.specs.Import.{judged, following, confirmed, judgedStops, stops, importNumber}
+use Rattle.importer.specs.Import.{judged, fileStamp, following, confirmed, judgedStops, stops, importNumber}
 use Rattle.importer.specs.Promises.{Import}
 use Rattle.importer.specs.laws.Numbers.{Formed, number-judged, accepted-clear, accepted-passed}
 use Rattle.importer.specs.laws.Accepted.{lines-his}
@@ -109,7 +109,7 @@ module _ (f : Handed) (register : List ℕ) (r : Imported) (b g : List ℕ) (o :
     pub stopped-only : r .number ≡ 35 → None fs × ((f .mode ≡ full) × (2 * tally good vs < countOf from (records register)))
     stopped-only e = (form-none e, thin-only (f .mode) from (records register) (tally good vs) (is-thin e))
 
-    pub has-room : r .number ≡ 35 → length (holdings (f .mode) from (recordOf (f .reception)) (records register) (pick good vs (linesOf (f .hgv)))) ≤ slotsIn register
+    pub has-room : r .number ≡ 35 → length (holdings (f .mode) from (slotOf (fileStamp f)) (records register) (pick good vs (linesOf (f .hgv)))) ≤ slotsIn register
     unfolding following taken
     has-room e =
         rw verdicts-are at (ltb-false (slotsIn register) (length (following f register)) (never-both f register (clear-form (form-none e)) (rw verdicts-are (is-thin e))))
@@ -130,7 +130,7 @@ module _ (f : Handed) (register : List ℕ) (e : importNumber f register ≡ 0) 
   ls = taken (judged register (f .rows) (f .hgv)) (f .hgv)
 
   abbrev xs : List (List ℕ)
-  xs = map (recordOf (f .reception)) ls
+  xs = map (slotOf (fileStamp f)) ls
 
   c : Formed f register
   c = accepted-clear f register e
@@ -139,7 +139,7 @@ module _ (f : Handed) (register : List ℕ) (e : importNumber f register ≡ 0) 
   sender-half : countOf his (records register) ≤ 2 * length (own his (following f register))
   unfolding following holdings replacedAll isFull
   sender-half =
-      rw (own-holdings (f .mode) his (recordOf (f .reception)) (slotsIn register) (records register) ls (fit f register e) (lines-his f register c))
+      rw (own-holdings (f .mode) his (slotOf (fileStamp f)) (slotsIn register) (records register) ls (fit f register e) (lines-his f register c))
       (go (isFull (f .mode)) refl)
     where
       go : (t : Bool) → isFull (f .mode) ≡ t → countOf his (records register) ≤ 2 * length (cond t (others his (own his (records register)) ++ xs) (storedAll (own his (records register)) xs))
@@ -148,7 +148,7 @@ module _ (f : Handed) (register : List ℕ) (e : importNumber f register ≡ 0) 
             arith,
             thick-half (f .mode) his (records register) (tally good (judged register (f .rows) (f .hgv))) (eqb-true (f .mode) full m) (accepted-passed f register e .thick),
             length-append (others his (own his (records register))) xs,
-            length-map ls (recordOf (f .reception)),
+            length-map ls (slotOf (fileStamp f)),
             length-taken f register c,
           )
       go false m = omega (arith, count-own his (records register), all-grows xs (own his (records register)))

@@ -5,23 +5,24 @@ use Rattle.importer.proofs.carry_out.Statement.{statement}
 use Rattle.importer.proofs.carry_out.Tie as tie
 
 apply-requires : tie.Need-apply-requires
-apply-requires c κs = apply-fits _ _ _ _ _ _ (c .before .before .before .before .before .before .before .before .before .before .before .pre) _ _ _ (c .before .before .sender .ensures) (c .before .body .ensures) (c .width .ensures)
+apply-requires c κs = apply-fits _ _ _ _ _ _ (c .before .before .before .before .before .before .before .before .before .before .before .before .pre) _ _ _ _ (c .before .before .before .sender .ensures) (c .before .before .list-sequence .ensures) (c .before .body .ensures) (c .width .ensures)
 
 write-requires : tie.Need-write-requires
-write-requires c κs = write-fits _ _ _ _ _ _ (c .before .before .before .before .before .before .before .before .before .before .before .before .before .before .before .pre)
+write-requires c κs = write-fits _ _ _ _ _ _ (c .before .before .before .before .before .before .before .before .before .before .before .before .before .before .before .before .pre)
 
 length-for-requires : tie.Need-length-for-requires
-length-for-requires c κs = length-fits _ _ _ _ _ _ (c .before .before .before .before .before .before .before .before .before .before .before .before .before .before .before .before .before .before .before .pre) _ (c .width2 .ensures)
+length-for-requires c κs = length-fits _ _ _ _ _ _ (c .before .before .before .before .before .before .before .before .before .before .before .before .before .before .before .before .before .before .before .before .pre) _ (c .width2 .ensures)
 
 returns : tie.Need-returns
 returns c =
-    let p = c .before .before .before .before .before .before .before .before .before .before .before .before .before .before .before .before .before .before .before .before .pre in
-    (success-is _ _ _ _ _ _ p _ (c .before .width2 .ensures) _ (c .length-for .ensures), (applied _ _ _ _ _ _ p _ _ _ (c .before .before .before .before .before .before .before .before .before .before .before .sender .ensures) (c .before .before .before .before .before .before .before .before .before .before .body .ensures) (c .before .before .before .before .before .before .before .before .before .width .ensures) _ (c .before .before .before .before .before .before .before .before .apply .ensures), hgc-is _ _ _ _ _ _ p _ (c .before .before .before .before .write .ensures)))
+    let p = c .before .before .before .before .before .before .before .before .before .before .before .before .before .before .before .before .before .before .before .before .before .pre in
+    (success-is _ _ _ _ _ _ p _ (c .before .width2 .ensures) _ (c .length-for .ensures), (applied _ _ _ _ _ _ p _ _ _ _ (c .before .before .before .before .before .before .before .before .before .before .before .before .sender .ensures) (c .before .before .before .before .before .before .before .before .before .before .before .list-sequence .ensures) (c .before .before .before .before .before .before .before .before .before .before .body .ensures) (c .before .before .before .before .before .before .before .before .before .width .ensures) _ (c .before .before .before .before .before .before .before .before .apply .ensures), hgc-is _ _ _ _ _ _ p _ (c .before .before .before .before .write .ensures)))
 
 pub carry-out-spec : {M : Type 1} → statement M
 carry-out-spec =
     tie.close
     (tie.spec
+    (λ c κs. search needs)
     (λ c κs. search needs)
     (λ c κs. search needs)
     (λ c κs. search needs)

@@ -7,7 +7,7 @@ use Prim.Native.Nat.{ℕ, _*_, _≤_}
 use native.Mathlib.Omega.{arith}
 use lib.ListN.{length}
 use Rattle.theory.specs.Each.{Each}
-use Rattle.theory.specs.laws.Each.{each-map}
+use Rattle.theory.specs.laws.Each.{each-map, each-both}
 use Rattle.theory.specs.Pick.{good, bad}
 use Rattle.theory.specs.Tally.{tally}
 use Rattle.theory.specs.Distinct.{distinct}
@@ -16,12 +16,13 @@ use Rattle.columns.specs.Columns.{panOf}
 use Rattle.lines.specs.Rules.{recordHolds, L2}
 use Rattle.lines.specs.Faultless.{Faultless}
 use Rattle.lines.specs.laws.Faultless.{faultless-record}
-use Rattle.lines.specs.End.{recordOf}
+use Rattle.records.specs.Slot.{slotOf, storable}
+use Rattle.records.specs.laws.Stamped.{his-storable}
 use Rattle.sizes.specs.Sizes.{linesMost}
 use Rattle.hgv.specs.Layout.{widthOf, linesIn, body, linesOf}
 use Rattle.hgv.specs.laws.Layout.{lines-room, lines-most}
-use Rattle.header.specs.Header.{sender}
-use Rattle.header.specs.laws.Header.{header-sender}
+use Rattle.header.specs.Header.{sender, listSequence}
+use Rattle.header.specs.laws.Header.{header-sender, header-list}
 use Rattle.slots.specs.Slots.{records, slotsIn}
 use Rattle.slots.specs.Search.{ofActor, heldByAnother}
 use Rattle.verdicts.specs.Verdict.{taken}
@@ -30,12 +31,12 @@ use Rattle.hgc.specs.Confirmation.{confirmationLength}
 use Rattle.hgc.specs.laws.Confirmation.{length-confirmation}
 use Rattle.taken.specs.Taken.{takenIn}
 use Rattle.upkeep.specs.Makes.{Makes}
-use Rattle.upkeep.specs.laws.Makes.{record-makes}
+use Rattle.upkeep.specs.laws.Makes.{slot-makes}
 use Rattle.applying.specs.Fit.{Sought}
 use Rattle.holdings.specs.Room.{usedAfter}
 use Rattle.holdings.specs.laws.Room.{used-after}
 use Rattle.importer.specs.Handed.{Handed}
-use Rattle.importer.specs.Import.{judged, following, confirmed}
+use Rattle.importer.specs.Import.{judged, fileStamp, following, shown, confirmed}
 use Rattle.importer.specs.laws.Numbers.{Formed}
 
 module _ (f : Handed) (register : List ℕ) (c : Formed f register) where
@@ -65,15 +66,20 @@ module _ (f : Handed) (register : List ℕ) (c : Formed f register) where
   unfolding judged
   lines-free = each-free (f .rows) (records register) (f .hgv)
 
-  -- their records have their PANs and actors
-  pub lines-made : Each (Makes (recordOf (f .reception))) ls
-  lines-made = each-map (λ l r. record-makes (f .reception) (c .received) l r) lines-hold
+  -- so they can be stored under the file's stamp
+  pub lines-storable : Each (λ l. storable (fileStamp f) l ≡ true) ls
+  lines-storable =
+      each-map (λ l k. his-storable (sender (f .hgv)) (listSequence (f .hgv)) (f .reception) l (header-list (f .hgv) (c .headed)) (c .received) (k .0) (k .1)) (each-both lines-his lines-hold)
+
+  -- and their slots have their PANs and actors
+  pub lines-made : Each (Makes (slotOf (fileStamp f))) ls
+  lines-made = each-map (λ l k. slot-makes (fileStamp f) l k) lines-storable
 
   -- the number of records that follow, as it is reckoned
   pub following-used : usedAfter (f .mode) (sender (f .hgv)) (records register) ls ≡ length (following f register)
   unfolding following
   following-used =
-      used-after (recordOf (f .reception)) (f .mode) (sender (f .hgv)) (records register) ls (each-map (λ l m. m .pan) lines-made) lines-apart
+      used-after (slotOf (fileStamp f)) (f .mode) (sender (f .hgv)) (records register) ls (each-map (λ l m. m .pan) lines-made) lines-apart
 
   -- ---- as the code has them: vs are the verdicts
 
@@ -95,7 +101,7 @@ module _ (f : Handed) (register : List ℕ) (c : Formed f register) where
 
     pub confirmed-length : (r : ℕ) → r ≡ tally bad vs → length (confirmed f register) ≡ confirmationLength (widthOf (f .hgv)) r
     unfolding confirmed
-    confirmed-length r k = rw (← e, k) (length-confirmation (f .reception) (f .hgv) vs (real-length (f .reception) (c .received)) (c .sized) verdict-each)
+    confirmed-length r k = rw (← e, k) (length-confirmation (shown f) (f .hgv) vs (real-length (shown f) (c .received)) (c .sized) verdict-each)
 
 -- the file's form is right, its lines are judged, and there is room for what follows
 pub record Accepted (f : Handed) (register vs : List ℕ) (t r : ℕ) (found : List ℕ) : Type 0 where

@@ -12,7 +12,7 @@ use Rattle.numbers.specs.Number.{number}
 use Rattle.header.specs.Header.{sender, count}
 use Rattle.claims.specs.Claims.{countHolds}
 use Rattle.hgv.specs.Layout.{linesIn}
-use Rattle.lines.specs.End.{recordOf}
+use Rattle.records.specs.Slot.{slotOf}
 use Rattle.slots.specs.Slots.{slotsIn, records}
 use Rattle.slots.specs.Search.{ofActor}
 use Rattle.verdicts.specs.Verdict.{taken}
@@ -24,7 +24,7 @@ use Rattle.applying.specs.Fit.{Fit}
 use Rattle.applying.specs.laws.Follows.{follows}
 use Rattle.applying.specs.laws.Others.{others-stay, places-stay}
 use Rattle.importer.specs.Handed.{Handed}
-use Rattle.importer.specs.Import.{judged, following, importNumber, registerWritten}
+use Rattle.importer.specs.Import.{judged, fileStamp, following, importNumber, registerWritten}
 use Rattle.importer.specs.laws.Accepted.{lines-made, lines-his, lines-apart, lines-free}
 use Rattle.importer.specs.laws.Numbers.{Formed, accepted-clear, accepted-passed}
 
@@ -37,7 +37,7 @@ module _ (f : Handed) (register : List ℕ) (e : importNumber f register ≡ 0) 
   unfolding judged countHolds
   adds-up = taken-rejected (f .rows) (records register) (f .hgv) ∙ sym (eqb-true (number (count (f .hgv))) (linesIn (f .hgv)) (c .counted))
 
-  pub fit : Fit (f .mode) (sender (f .hgv)) (recordOf (f .reception)) (slotsIn register) (records register) (taken (judged register (f .rows) (f .hgv)) (f .hgv))
+  pub fit : Fit (f .mode) (sender (f .hgv)) (slotOf (fileStamp f)) (slotsIn register) (records register) (taken (judged register (f .rows) (f .hgv)) (f .hgv))
   unfolding following
   fit =
       record {
@@ -50,15 +50,15 @@ module _ (f : Handed) (register : List ℕ) (e : importNumber f register ≡ 0) 
   -- in order, and the records are those that follow
   pub holds-following : Holds (slotsIn register) (following f register) (registerWritten f register)
   unfolding following registerWritten
-  holds-following = follows (f .mode) (sender (f .hgv)) (recordOf (f .reception)) register (taken (judged register (f .rows) (f .hgv)) (f .hgv)) (c .ordered) fit
+  holds-following = follows (f .mode) (sender (f .hgv)) (slotOf (fileStamp f)) register (taken (judged register (f .rows) (f .hgv)) (f .hgv)) (c .ordered) fit
 
   -- the other providers' records are the same sequence
   pub others-same : others (sender (f .hgv)) (following f register) ≡ others (sender (f .hgv)) (records register)
   unfolding following
-  others-same = others-stay (f .mode) (sender (f .hgv)) (recordOf (f .reception)) (slotsIn register) (records register) (taken (judged register (f .rows) (f .hgv)) (f .hgv)) fit (lines-his f register c)
+  others-same = others-stay (f .mode) (sender (f .hgv)) (slotOf (fileStamp f)) (slotsIn register) (records register) (taken (judged register (f .rows) (f .hgv)) (f .hgv)) fit (lines-his f register c)
 
   -- in mode 1 also in the same slots
   pub places-same : isFull (f .mode) ≡ false → (i : ℕ) → i < length (records register) → ofActor (sender (f .hgv)) (getD (records register) i []) ≡ false
       → getD (following f register) i [] ≡ getD (records register) i []
   unfolding following
-  places-same = places-stay (f .mode) (sender (f .hgv)) (recordOf (f .reception)) (slotsIn register) (records register) (taken (judged register (f .rows) (f .hgv)) (f .hgv)) fit (lines-his f register c)
+  places-same = places-stay (f .mode) (sender (f .hgv)) (slotOf (fileStamp f)) (slotsIn register) (records register) (taken (judged register (f .rows) (f .hgv)) (f .hgv)) fit (lines-his f register c)

@@ -1,6 +1,6 @@
 -- A record with its stamp behind it: the record's own laws hold in the slot, and the stamp is found there again.
 -- Assumes nothing.
-use mathlib.Core.Path.{_≡_, refl, sym, _∙_}
+use mathlib.Core.Path.{_≡_, _∙_}
 use mathlib.Core.Bool.{true, _&&_}
 use mathlib.Core.List.{List, _++_}
 use Prim.Native.Nat.{ℕ, _≤_}
@@ -9,6 +9,7 @@ use lib.Dec.{leb}
 use lib.ListN.{length, length-append}
 use Rattle.theory.specs.Text.{bytes}
 use Rattle.theory.specs.Every.{run}
+use Rattle.theory.specs.laws.Same.{eqs-true}
 use Rattle.theory.specs.laws.Truth.{and-left, and-right}
 use Rattle.sizes.specs.Sizes.{slotLength, slotEnd, stampLength, stampFrom, timeLength}
 use Rattle.texts.specs.Field.{field, lineEnd}
@@ -16,13 +17,15 @@ use Rattle.texts.specs.laws.Field.{field-before, field-behind, field-all}
 use Rattle.fields.specs.Field.{digit}
 use Rattle.times.specs.Time.{realTime}
 use Rattle.times.specs.laws.Moment.{real-length}
-use Rattle.columns.specs.Columns.{actor, panOf, weight, validTo}
+use Rattle.columns.specs.Columns.{actor, panOf, weight}
 use Rattle.vehicles.specs.Vehicle.{validToHolds}
 use Rattle.lines.specs.Rules.{recordHolds}
 use Rattle.lines.specs.laws.Agree.{positions-within, record-agrees}
 use Rattle.lines.specs.End.{recordOf}
-use Rattle.stamps.specs.Stamp.{stampIn, listIn, receptionIn, stamp, stampHolds}
-use Rattle.stamps.specs.laws.Stamp.{Stamped, stamped}
+use Rattle.sequences.specs.Sequence.{sequence}
+use Rattle.stamps.specs.Stamp.{stampIn, receptionIn, stamp, stampHolds}
+use Rattle.stamps.specs.laws.Stamp.{Stamped, stamped, stamp-holds}
+use Rattle.slots.specs.Search.{ofActor}
 use Rattle.records.specs.Slot.{slotOf, storable, lineLeast}
 use Rattle.records.specs.laws.Written.{length-record, record-front, record-first, record-last}
 use Rattle.records.specs.laws.Holds.{record-long, record-holds}
@@ -95,3 +98,8 @@ module _ (s l : List ℕ) (h : storable s l ≡ true) where
   slot-holds =
       record-agrees r (slotOf s l) (within 2 96 (omega arith) (omega arith)) digits valid (within 115 127 (omega arith) (omega arith))
       ∙ record-holds (receptionIn s) l line-holds (t .received)
+
+-- the lines of a sender that keep the rules of a record can be stored under the stamp of a list of his
+pub his-storable : (who list reception l : List ℕ) → sequence who list ≡ true → realTime reception ≡ true → ofActor who l ≡ true → recordHolds l ≡ true → storable (stamp list reception) l ≡ true
+unfolding storable ofActor
+his-storable who list reception l s t a h = rw (h, eqs-true (actor l) who a, stamp-holds who list reception s t)
