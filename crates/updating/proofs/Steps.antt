@@ -9,11 +9,13 @@ use lib.ListN.{length}
 use borrow.Author.Tests.{not-true}
 use Rattle.theory.specs.First.{first}
 use Rattle.theory.specs.Each.{Each}
-use Rattle.header.specs.Header.{sender}
-use Rattle.sizes.specs.Sizes.{slotsMost, linesMost}
-use Rattle.times.specs.Time.{realTime}
-use Rattle.lines.specs.Rules.{recordHolds}
-use Rattle.lines.specs.End.{recordOf}
+use Rattle.header.specs.Header.{sender, listSequence}
+use Rattle.header.specs.laws.Header.{header-list}
+use Rattle.sizes.specs.Sizes.{slotsMost, linesMost, timeLength}
+use Rattle.times.specs.laws.Moment.{real-length}
+use Rattle.sequences.specs.laws.Length.{sequence-length}
+use Rattle.stamps.specs.Stamp.{listLength, stamp}
+use Rattle.records.specs.Slot.{slotOf, storable}
 use Rattle.taken.specs.Taken.{takenIn}
 use Rattle.hgv.specs.Layout.{widthOf, linesIn, body, linesOf}
 use Rattle.hgv.specs.laws.Layout.{lines-room, lines-most}
@@ -28,14 +30,14 @@ use Rattle.holdings.specs.Places.{placesAfter}
 use Rattle.applying.specs.Fit.{Fit, Sought}
 use Rattle.applying.specs.laws.Sought.{NoPlaces, sought}
 use Rattle.pairing.specs.Backwards.{paired}
-use Rattle.receipts.specs.Receipt.{receptionOf, textsOf, copiesOf, takenBy, receiptHolds}
+use Rattle.receipts.specs.Receipt.{listOf, receptionOf, textsOf, copiesOf, takenBy, receiptHolds}
 use Rattle.provider.specs.declared.Counted.{Counted}
 use Rattle.provider.specs.Answer.{stopCounts, successCounts}
 use Rattle.updating.specs.Sent.{sent}
 use Rattle.updating.specs.Update.{copyStops, copyFollowing, updateAnswer, copyWritten, copyAfter}
 use Rattle.updating.specs.laws.Numbers.{copy-sound, update-52, update-33, update-done, update-refused, copy-stays, update-counted, copy-updated}
 use Rattle.updating.specs.laws.Fits.{following-used, taken-fit}
-use Rattle.provider.specs.laws.Held.{received-held, taken-kept, holds, marks-fit, marks-each}
+use Rattle.provider.specs.laws.Held.{received-held, list-held, taken-storable, holds, marks-fit, marks-each}
 
 -- n lines have room in a block for the most that there may be
 pub copy-most : (mode : ℕ) (copy h : List ℕ) (s : ℕ) → s ≡ first (copyStops mode copy h) → s ≡ 0 → (n : ℕ) → n ≡ linesIn h → n ≤ linesMost
@@ -67,7 +69,7 @@ module _ (mode : ℕ) (copy h g : List ℕ) (z : first (copyStops mode copy h) �
     -- u slots would be used
     module _ (u : ℕ) (eu : u ≡ usedAfter mode from (records copy) (takenIn w ms ls)) where
       used-is : u ≡ length (copyFollowing (sent mode h g) copy)
-      used-is = eu ∙ rw (lines-are, ef) (following-used h g (holds h g r er k) mode copy)
+      used-is = eu ∙ rw (lines-are, ef) (following-used h g (copy-sound mode copy h z .headed) (holds h g r er k) mode copy)
 
       -- 33
       pub update-full : slotsIn copy < u → (a : Counted) → a ≡ stopCounts 33 → (a ≡ updateAnswer (sent mode h g) copy) × (copy ≡ copyAfter (sent mode h g) copy)
@@ -75,7 +77,7 @@ module _ (mode : ℕ) (copy h g : List ℕ) (z : first (copyStops mode copy h) �
           let n = update-33 mode copy h g z (holds h g r er k) (omega (arith, used-is)) in
           (e ∙ update-refused mode copy h g 33 n (λ i. omega arith), copy-stays mode copy h g 33 n (λ i. omega arith))
 
-      module _ (l : u ≤ slotsIn copy) (reception : List ℕ) (ec : reception ≡ receptionOf g) where
+      module _ (l : u ≤ slotsIn copy) (list : List ℕ) (es : list ≡ listOf g) (reception : List ℕ) (ec : reception ≡ receptionOf g) where
         room : length (copyFollowing (sent mode h g) copy) ≤ slotsIn copy
         room = omega (arith, used-is)
 
@@ -83,9 +85,10 @@ module _ (mode : ℕ) (copy h g : List ℕ) (z : first (copyStops mode copy h) �
         pub apply-fits : (found₀ found : List ℕ) → NoPlaces found₀ → length found₀ ≡ linesIn h → found ≡ placesAfter mode (records copy) w ls ms found₀
             → (length ms * w ≤ length ls)
             × ((inOrder copy ≡ true)
-            × ((realTime reception ≡ true)
-            × (Each (λ l. recordHolds l ≡ true) (takenIn w ms ls)
-            × (Fit mode from (recordOf reception) (slotsIn copy) (records copy) (takenIn w ms ls) × Sought mode (records copy) w ls ms found))))
+            × ((length list ≡ listLength)
+            × ((length reception ≡ timeLength)
+            × (Each (λ l. storable (stamp list reception) l ≡ true) (takenIn w ms ls)
+            × (Fit mode from (slotOf (stamp list reception)) (slotsIn copy) (records copy) (takenIn w ms ls) × Sought mode (records copy) w ls ms found)))))
         apply-fits found₀ found y m f =
             let s = copy-sound mode copy h z in
             let t = holds h g r er k in (
@@ -93,12 +96,15 @@ module _ (mode : ℕ) (copy h g : List ℕ) (z : first (copyStops mode copy h) �
               (
                 s .ordered,
                 (
-                  rw ec (received-held h g t),
+                  rw (es, list-held h g t) (sequence-length (sender h) (listSequence h) (header-list h (s .headed))),
                   (
-                    rw lines-are (taken-kept h g t),
+                    rw ec (real-length (receptionOf g) (received-held h g t)),
                     (
-                      rw (lines-are, ef, ec) (taken-fit h g t mode copy (s .own) room),
-                      sought mode (records copy) w ls ms found₀ found y (as-many (length found₀) m) f,
+                      rw (lines-are, es, ec) (taken-storable h g t (s .headed)),
+                      (
+                        rw (lines-are, ef, es, ec) (taken-fit h g (s .headed) t mode copy (s .own) room),
+                        sought mode (records copy) w ls ms found₀ found y (as-many (length found₀) m) f,
+                      ),
                     ),
                   ),
                 ),
@@ -106,9 +112,9 @@ module _ (mode : ℕ) (copy h g : List ℕ) (z : first (copyStops mode copy h) �
             )
 
         pub update-whole : (a : Counted) → a ≡ successCounts h g
-            → (b : List ℕ) → Holds (slotsIn copy) (holdings mode from (recordOf reception) (records copy) (takenIn w ms ls)) b
+            → (b : List ℕ) → Holds (slotsIn copy) (holdings mode from (slotOf (stamp list reception)) (records copy) (takenIn w ms ls)) b
             → (a ≡ updateAnswer (sent mode h g) copy) × (b ≡ copyAfter (sent mode h g) copy)
         unfolding copyWritten copyFollowing
         update-whole a e b f =
             let n = update-done mode copy h g z (holds h g r er k) room in
-            (e ∙ update-counted mode copy h g n, f .bytes ∙ rw (lines-are, ef, ec) (copy-updated mode copy h g n))
+            (e ∙ update-counted mode copy h g n, f .bytes ∙ rw (lines-are, ef, es, ec) (copy-updated mode copy h g n))

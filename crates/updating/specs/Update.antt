@@ -15,13 +15,14 @@ use Rattle.frames.specs.Frames.{footerHolds, framesHold}
 use Rattle.header.specs.Header.{sender, headerHolds}
 use Rattle.claims.specs.Claims.{versionHolds, receiverHolds, countHolds}
 use Rattle.sizes.specs.Sizes.{slotLength}
-use Rattle.lines.specs.End.{recordOf}
+use Rattle.stamps.specs.Stamp.{stamp}
+use Rattle.records.specs.Slot.{slotOf}
 use Rattle.slots.specs.Slots.{slotsIn, records}
 use Rattle.register.specs.Register.{inOrder}
 use Rattle.slots.specs.Search.{ofActor}
 use Rattle.holdings.specs.Holdings.{holdings}
 use Rattle.stops.specs.Stops.{modeHolds, fullWith220001}
-use Rattle.receipts.specs.Receipt.{receptionOf, takenBy, receiptHolds}
+use Rattle.receipts.specs.Receipt.{listOf, receptionOf, takenBy, receiptHolds}
 use Rattle.provider.specs.declared.Counted.{Counted}
 use Rattle.provider.specs.Answer.{stopCounts, successCounts}
 use Rattle.updating.specs.Sent.{Sent}
@@ -46,9 +47,13 @@ copyStops mode copy h =
     ∷ (32 if not (framesHold h))
     ∷ []
 
--- the records that follow: the taken lines applied as the import applies them, with the HGC's reception
+-- what each taken line's slot is stamped with: the HGC's list, and its reception
+abbrev pub sentStamp : Sent → List ℕ
+sentStamp s = stamp (listOf (s .hgc)) (receptionOf (s .hgc))
+
+-- the records that follow: the taken lines applied as the import applies them
 unfoldable pub copyFollowing : Sent → List ℕ → List (List ℕ)
-copyFollowing s copy = holdings (s .mode) (sender (s .hgv)) (recordOf (receptionOf (s .hgc))) (records copy) (takenBy (s .hgv) (s .hgc))
+copyFollowing s copy = holdings (s .mode) (sender (s .hgv)) (slotOf (sentStamp s)) (records copy) (takenBy (s .hgv) (s .hgc))
 
 -- 52, and 33: more used slots would follow than there are
 unfoldable pub receiptStops : Sent → List ℕ → List Rule

@@ -58,8 +58,11 @@ fn update_lines(
     if copy.len() / sizes::SLOT < used {
         return provider::refused(33);
     }
+    let list = receipts::list_sequence(hgc);
     let reception = receipts::reception(hgc);
-    applying::apply(mode, copy, sender, reception, lines, width, marks, found);
+    applying::apply(
+        mode, copy, sender, list, reception, lines, width, marks, found,
+    );
     provider::count(hgv, hgc, marks)
 }
 

@@ -7,10 +7,12 @@ use Prim.Native.Nat.{ℕ, _≤_}
 use native.Mathlib.Omega.{arith}
 use lib.ListN.{length, length-map}
 use borrow.Author.Tests.{not-false}
+use Rattle.theory.specs.Same.{eqs}
+use Rattle.theory.specs.laws.Same.{eqs-true}
 use Rattle.theory.specs.laws.Truth.{and-left, and-right}
 use Rattle.theory.specs.Distinct.{distinct}
 use Rattle.theory.specs.Each.{Each}
-use Rattle.theory.specs.laws.Each.{each-map}
+use Rattle.theory.specs.laws.Each.{each-map, each-both}
 use Rattle.theory.specs.Walk.{each}
 use Rattle.theory.specs.laws.Parts.{length-chop}
 use Rattle.theory.specs.Pick.{good, bad}
@@ -18,16 +20,20 @@ use Rattle.theory.specs.Tally.{tally}
 use Rattle.theory.specs.laws.Tally.{tally-pick}
 use Rattle.times.specs.Time.{realTime}
 use Rattle.columns.specs.Columns.{panOf}
-use Rattle.lines.specs.Rules.{recordHolds}
-use Rattle.lines.specs.End.{recordOf}
+use Rattle.stamps.specs.Stamp.{stamp}
+use Rattle.records.specs.Slot.{slotOf, storable}
+use Rattle.records.specs.laws.Stamped.{his-storable}
 use Rattle.upkeep.specs.Makes.{Makes}
-use Rattle.upkeep.specs.laws.Makes.{record-makes}
+use Rattle.upkeep.specs.laws.Makes.{slot-makes}
+use Rattle.header.specs.Header.{sender, listSequence, headerHolds}
+use Rattle.header.specs.laws.Header.{header-list}
 use Rattle.hgv.specs.Layout.{widthOf, linesIn, linesOf}
 use Rattle.hgv.specs.laws.Layout.{length-lines}
 use Rattle.pairing.specs.Pairing.{left}
 use Rattle.pairing.specs.Backwards.{paired}
 use Rattle.pairing.specs.laws.Pairing.{length-marks}
-use Rattle.receipts.specs.Receipt.{answersIn, answersOf, receptionOf, reasonHolds, textsOf, copiesOf, marksOf, takenBy, formHolds, namesHold, outcomeHolds, saysHold, linesHold, receiptHolds}
+use Rattle.texts.specs.Field.{field}
+use Rattle.receipts.specs.Receipt.{answersIn, answersOf, listOf, receptionOf, reasonHolds, textsOf, copiesOf, marksOf, takenBy, formHolds, namesHold, outcomeHolds, saysHold, linesHold, receiptHolds}
 use Rattle.matching.specs.laws.Matching.{Held, held, taken-marks, taken-count as count-taken}
 
 module _ (h g : List ℕ) where
@@ -57,9 +63,19 @@ module _ (h g : List ℕ) where
     unfolding saysHold
     reasons-held = and-right (((formHolds h g && namesHold h g) && realTime (receptionOf g)) && outcomeHolds h g) (each (reasonHolds (widthOf h)) (answersOf h g)) says
 
+    named : (formHolds h g && namesHold h g) && realTime (receptionOf g) ≡ true
+    named = and-left ((formHolds h g && namesHold h g) && realTime (receptionOf g)) (outcomeHolds h g) fronted
+
     pub received-held : realTime (receptionOf g) ≡ true
-    received-held =
-        and-right (formHolds h g && namesHold h g) (realTime (receptionOf g)) (and-left ((formHolds h g && namesHold h g) && realTime (receptionOf g)) (outcomeHolds h g) fronted)
+    received-held = and-right (formHolds h g && namesHold h g) (realTime (receptionOf g)) named
+
+    -- it names the HGV's list
+    pub list-held : listOf g ≡ listSequence h
+    unfolding namesHold
+    list-held =
+        eqs-true (listOf g) (listSequence h)
+        (and-right (eqs (field 8 13 g) (sender h)) (eqs (listOf g) (listSequence h))
+        (and-right (formHolds h g) (namesHold h g) (and-left (formHolds h g && namesHold h g) (realTime (receptionOf g)) named)))
 
     matched : Held h g
     matched = held h g lines
@@ -76,15 +92,17 @@ module _ (h g : List ℕ) where
         (sym (tally-pick bad (marksOf h g) (textsOf h) (length-marks (textsOf h) (copiesOf h g)))
         ∙ ap length (matched .copies) ∙ length-map (answersOf h g) _ ∙ length-chop _ (answersIn h g) _)
 
-    -- each keeps the rules of a record
-    pub taken-kept : Each (λ l. recordHolds l ≡ true) (takenBy h g)
-    taken-kept = matched .records
-
     pub taken-apart : distinct (map panOf (takenBy h g)) ≡ true
     taken-apart = matched .apart
 
-    pub taken-made : Each (Makes (recordOf (receptionOf g))) (takenBy h g)
-    taken-made = each-map (λ l k. record-makes (receptionOf g) received-held l k) taken-kept
+    -- beside a header in form each can be stored under the stamp of the list that the HGC names
+    module _ (headed : headerHolds h ≡ true) where
+      pub taken-storable : Each (λ l. storable (stamp (listOf g) (receptionOf g)) l ≡ true) (takenBy h g)
+      taken-storable =
+          each-map (λ l k. his-storable (sender h) (listOf g) (receptionOf g) l (rw list-held (header-list h headed)) received-held (k .0) (k .1)) (each-both (matched .own) (matched .records))
+
+      pub taken-made : Each (Makes (slotOf (stamp (listOf g) (receptionOf g)))) (takenBy h g)
+      taken-made = each-map (λ l k. slot-makes (stamp (listOf g) (receptionOf g)) l k) taken-storable
 
 -- as the code learns it: r says whether the HGC holds, and ms are its marks
 module _ (h g : List ℕ) (r : Bool) (er : r ≡ receiptHolds h g) (k : not r ≡ false) where

@@ -10,6 +10,7 @@ use Rattle.theory.specs.First.{None, more, first, choose}
 use Rattle.theory.specs.laws.First.{first-clear, numbered}
 use Rattle.theory.specs.laws.Stopped.{at-stop, at-success, by-first, by-second}
 use Rattle.hgv.specs.Layout.{lengthHolds}
+use Rattle.header.specs.Header.{headerHolds}
 use Rattle.slots.specs.Slots.{slotsIn}
 use Rattle.register.specs.Register.{inOrder}
 use Rattle.receipts.specs.Receipt.{receiptHolds}
@@ -25,6 +26,7 @@ copies mode copy h = refl
 pub record Sound (copy h : List ℕ) : Type 0 where
   pub ordered : inOrder copy ≡ true
   pub sized : lengthHolds h ≡ true
+  pub headed : headerHolds h ≡ true
   pub own : ownHolds copy h ≡ true
 
 pub copy-sound : (mode : ℕ) (copy h : List ℕ) → first (copyStops mode copy h) ≡ 0 → Sound copy h
@@ -33,7 +35,7 @@ copy-sound mode copy h z = go (first-clear (copyStops mode copy h) (copies mode 
   where
     go : None (copyStops mode copy h) → Sound copy h
     go (more h₁ (more h₂ (more h₃ (more h₄ (more h₅ (more h₆ (more h₇ (more h₈ hs)))))))) =
-        record { ordered = not-false (inOrder copy) h₂; sized = not-false (lengthHolds h) h₃; own = not-false (ownHolds copy h) h₈ }
+        record { ordered = not-false (inOrder copy) h₂; sized = not-false (lengthHolds h) h₃; headed = not-false (headerHolds h) h₄; own = not-false (ownHolds copy h) h₈ }
 
 module _ (mode : ℕ) (copy h g : List ℕ) where
   abbrev number : ℕ
