@@ -1,5 +1,6 @@
 pub mod Prepared
 pub mod Sought
 pub mod Others
+pub mod Touched
 pub mod Follows
 pub mod Outcomes

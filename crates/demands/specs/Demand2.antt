@@ -5,6 +5,7 @@ use mathlib.Core.Bool.{true, false}
 use mathlib.Core.List.{List, [], _++_}
 use Prim.Native.Nat.{ℕ, _+_, _≤_, _<_}
 use lib.ListN.{length, take, drop, getD}
+use Rattle.stamps.specs.Stamp.{stamp}
 use Rattle.records.specs.Slot.{slotOf}
 use Rattle.theory.specs.First.{Fits}
 use Rattle.theory.specs.laws.First.{first-fits}
@@ -15,7 +16,7 @@ use Rattle.theory.specs.Join.{flat}
 use Rattle.theory.specs.Pad.{pad}
 use Rattle.numbers.specs.Number.{number}
 use Rattle.hgv.specs.Layout.{linesIn, linesOf}
-use Rattle.header.specs.Header.{sender, count}
+use Rattle.header.specs.Header.{sender, listSequence, count}
 use Rattle.sizes.specs.Sizes.{slotLength}
 use Rattle.slots.specs.Slots.{slotsIn, records, usedIn}
 use Rattle.register.specs.Register.{inOrder}
@@ -58,7 +59,7 @@ module _ (f : Handed) (register : List ℕ) (r : Imported) (b g : List ℕ) (o :
   Judged vs = Verdicts (f .rows) (sender (f .hgv)) (records register) (linesOf (f .hgv)) vs
 
   -- "The register then holds exactly the accounts that follow,"
-  pub records-are : (vs : List ℕ) → Judged vs → records b ≡ holdings (f .mode) (sender (f .hgv)) (slotOf (fileStamp f)) (records register) (pick good vs (linesOf (f .hgv)))
+  pub records-are : (vs : List ℕ) → Judged vs → records b ≡ holdings (f .mode) (sender (f .hgv)) (slotOf (stamp (listSequence (f .hgv)) (f .reception))) (records register) (pick good vs (linesOf (f .hgv)))
   records-are vs v = laws.records-are f register r b g o z vs v
 
   -- behind its records it is free slots, as many slots as before, and in order again

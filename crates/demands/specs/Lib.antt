@@ -7,4 +7,5 @@ pub mod Demand2
 pub mod Demand3
 pub mod Weights
 pub mod Thin
+pub mod Stamps
 pub mod laws

@@ -9,8 +9,9 @@ use Rattle.theory.specs.First.{Rule, None}
 use Rattle.theory.specs.Pick.{good, pick}
 use Rattle.theory.specs.Tally.{tally}
 use Rattle.sizes.specs.Sizes.{incremental, full}
+use Rattle.stamps.specs.Stamp.{stamp}
 use Rattle.records.specs.Slot.{slotOf}
-use Rattle.header.specs.Header.{sender}
+use Rattle.header.specs.Header.{sender, listSequence}
 use Rattle.hgv.specs.Layout.{linesIn, linesOf}
 use Rattle.slots.specs.Slots.{slotsIn, records}
 use Rattle.slots.specs.Search.{countOf}
@@ -59,7 +60,7 @@ module _ (f : Handed) (register : List ℕ) (r : Imported) (b g : List ℕ) (o :
     incremental-passes m e = omega (arith, stopped-only e .1 .0)
 
     -- "and before 33": what follows has room wherever 35 is answered, so the two never hold together and nobody leans on their order
-    pub has-room : r .number ≡ 35 → length (holdings (f .mode) (sender (f .hgv)) (slotOf (fileStamp f)) (records register) (pick good vs (linesOf (f .hgv)))) ≤ slotsIn register
+    pub has-room : r .number ≡ 35 → length (holdings (f .mode) (sender (f .hgv)) (slotOf (stamp (listSequence (f .hgv)) (f .reception))) (records register) (pick good vs (linesOf (f .hgv)))) ≤ slotsIn register
     has-room = laws.has-room f register r b g o vs v
 
   -- "A provider's night job sent a full list with eleven lines and we removed his other accounts."

@@ -19,9 +19,10 @@ use Rattle.numbers.specs.Number.{number}
 use Rattle.columns.specs.Columns.{panOf, tariff, weight}
 use Rattle.vehicles.specs.Vehicle.{vehicleHolds}
 use Rattle.lines.specs.Rules.{rulesBy}
+use Rattle.stamps.specs.Stamp.{stamp}
 use Rattle.records.specs.Slot.{slotOf}
 use Rattle.hgv.specs.Layout.{linesOf}
-use Rattle.header.specs.Header.{sender}
+use Rattle.header.specs.Header.{sender, listSequence}
 use Rattle.sizes.specs.Sizes.{slotLength, slotsMost}
 use Rattle.slots.specs.Slots.{slotsIn, records}
 use Rattle.slots.specs.Search.{holdsPan, heldByAnother}
@@ -73,7 +74,7 @@ judgedUnder limit f register = scan (verdictUnder limit (f .rows) (sender (f .hg
 
 -- the records that follow where vs are the verdicts
 unfoldable pub followingBy : List ℕ → Handed → List ℕ → List (List ℕ)
-followingBy vs f register = holdings (f .mode) (sender (f .hgv)) (slotOf (fileStamp f)) (records register) (taken vs (f .hgv))
+followingBy vs f register = holdings (f .mode) (sender (f .hgv)) (slotOf (stamp (listSequence (f .hgv)) (f .reception))) (records register) (taken vs (f .hgv))
 
 -- the import was accepted: none of 21 to 32 is given, nor 33; it left the register b, and sent back the HGC g
 pub record AcceptedUnder (limit : List ℕ → Bool) (f : Handed) (register b g : List ℕ) : Type 0 where

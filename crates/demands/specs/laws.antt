@@ -11,3 +11,4 @@ pub mod Replays
 pub mod Judging
 pub mod Exact
 pub mod Thin
+pub mod Stamps

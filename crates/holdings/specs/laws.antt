@@ -1,4 +1,5 @@
 pub mod Storing
+pub mod Touched
 pub mod Room
 pub mod Places
 pub mod Outcomes

@@ -23,7 +23,10 @@ fn is_stamped(s: &[u8]) -> bool
     ensures { λ r. ⌜ r ≡ stampHolds (actor (now (s .entry))) (stampIn (now (s .entry))) ⌝ }
 {
     let stamp = texts::field(s, sizes::STAMP_FROM, sizes::SLOT);
-    stamps::is_stamp(stamp, texts::field(s, columns::ACTOR_FROM, columns::ACTOR_TO))
+    stamps::is_stamp(
+        stamp,
+        texts::field(s, columns::ACTOR_FROM, columns::ACTOR_TO),
+    )
 }
 
 fn is_used(s: &[u8]) -> bool

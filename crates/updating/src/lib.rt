@@ -61,7 +61,15 @@ fn update_lines(
     let list = receipts::list_sequence(hgc);
     let reception = receipts::reception(hgc);
     applying::apply(
-        mode, copy, sender, list, reception, lines, width, marks, found,
+        mode,
+        copy,
+        sender,
+        list,
+        reception,
+        lines,
+        width,
+        marks,
+        found,
     );
     provider::count(hgv, hgc, marks)
 }

@@ -21,6 +21,8 @@ use Rattle.upkeep.specs.Holds.{Holds}
 use Rattle.applying.specs.Fit.{Fit}
 use Rattle.applying.specs.laws.Follows.{follows}
 use Rattle.importer.specs.Handed.{Handed}
+use Rattle.importer.specs.Import.{fileStamp}
+use Rattle.provider.specs.laws.Held.{list-held}
 use Rattle.updating.specs.Sent.{Sent, sent}
 use Rattle.updating.specs.Update.{ownHolds, copyStops, copyFollowing, receiptStops, updateNumber, updateAnswer, copyWritten, copyAfter}
 use Rattle.demands.specs.Own.{own}
@@ -85,10 +87,10 @@ module _ (f : Handed) (register vs : List ℕ) (s : Sound f register vs) where
     unfolding ownHolds own
     his-own = rw (m .held) (passes-each (ofActor (sender (f .hgv))) (sift-passes (ofActor (sender (f .hgv))) (records register)))
 
-    -- the records that follow in the copy, by the HGC's reception and the lines read off as taken
+    -- the records that follow in the copy, by the HGC's list and reception and the lines read off as taken
     copied-is : copyFollowing entry copy ≡ holdings (f .mode) (sender (f .hgv)) (slotOf (fileStamp f)) (records copy) ls
     unfolding copyFollowing
-    copied-is = rw (reception-read f register vs s, taken-are f register vs s)
+    copied-is = rw (list-held (f .hgv) g (receipt f register vs s), reception-read f register vs s, taken-are f register vs s)
 
     -- are his of those that follow in the register
     copied-own : copyFollowing entry copy ≡ own (sender (f .hgv)) (followingBy vs f register)

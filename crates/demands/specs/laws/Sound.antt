@@ -25,18 +25,20 @@ use Rattle.vehicles.specs.Vehicle.{vehicleHolds}
 use Rattle.lines.specs.Rules.{rulesBy, recordHolds, L2}
 use Rattle.lines.specs.laws.Faultless.{passes-record}
 use Rattle.records.specs.Slot.{slotOf}
+use Rattle.records.specs.laws.Stamped.{each-storable}
 use Rattle.hgv.specs.Layout.{widthOf, linesIn, linesOf}
 use Rattle.hgv.specs.laws.Layout.{width-has, length-lines, each-line}
 use Rattle.frames.specs.Frames.{framed, framesHold}
 use Rattle.frames.specs.laws.Frames.{framed-is}
-use Rattle.header.specs.Header.{sender}
-use Rattle.header.specs.laws.Header.{header-sender}
+use Rattle.header.specs.Header.{sender, listSequence}
+use Rattle.header.specs.laws.Header.{header-sender, header-list}
 use Rattle.slots.specs.Slots.{slotsIn, records}
 use Rattle.slots.specs.Search.{holdsPan, ofActor, heldByAnother}
 use Rattle.verdicts.specs.Verdict.{taken}
-use Rattle.upkeep.specs.laws.Makes.{record-makes}
+use Rattle.upkeep.specs.laws.Makes.{each-makes}
 use Rattle.applying.specs.Fit.{Fit}
 use Rattle.importer.specs.Handed.{Handed}
+use Rattle.importer.specs.Import.{fileStamp}
 use Rattle.importer.specs.laws.Numbers.{Formed}
 use Rattle.pairing.specs.laws.Faithful.{Judges, lines-first}
 use Rattle.receipts.specs.Receipt.{textsOf}
@@ -64,7 +66,7 @@ pub fit : (f : Handed) (register vs : List ℕ) → Sound f register vs → Fit 
 unfolding followingBy
 fit f register vs s =
     record {
-      made = each-map (λ l k. record-makes (f .reception) (s .formed .received) l k) (s .hold);
+      made = each-makes (fileStamp f) (each-storable (sender (f .hgv)) (listSequence (f .hgv)) (f .reception) (header-list (f .hgv) (s .formed .headed)) (s .formed .received) (s .his) (s .hold));
       apart = s .apart;
       free = s .free;
       room = s .room;

@@ -7,7 +7,7 @@ use Prim.Native.Nat.{ℕ, _*_, _≤_}
 use native.Mathlib.Omega.{arith}
 use lib.ListN.{length}
 use Rattle.theory.specs.Each.{Each}
-use Rattle.theory.specs.laws.Each.{each-map, each-both}
+use Rattle.theory.specs.laws.Each.{each-map}
 use Rattle.theory.specs.Pick.{good, bad}
 use Rattle.theory.specs.Tally.{tally}
 use Rattle.theory.specs.Distinct.{distinct}
@@ -17,7 +17,7 @@ use Rattle.lines.specs.Rules.{recordHolds, L2}
 use Rattle.lines.specs.Faultless.{Faultless}
 use Rattle.lines.specs.laws.Faultless.{faultless-record}
 use Rattle.records.specs.Slot.{slotOf, storable}
-use Rattle.records.specs.laws.Stamped.{his-storable}
+use Rattle.records.specs.laws.Stamped.{each-storable}
 use Rattle.sizes.specs.Sizes.{linesMost}
 use Rattle.hgv.specs.Layout.{widthOf, linesIn, body, linesOf}
 use Rattle.hgv.specs.laws.Layout.{lines-room, lines-most}
@@ -31,7 +31,7 @@ use Rattle.hgc.specs.Confirmation.{confirmationLength}
 use Rattle.hgc.specs.laws.Confirmation.{length-confirmation}
 use Rattle.taken.specs.Taken.{takenIn}
 use Rattle.upkeep.specs.Makes.{Makes}
-use Rattle.upkeep.specs.laws.Makes.{slot-makes}
+use Rattle.upkeep.specs.laws.Makes.{each-makes}
 use Rattle.applying.specs.Fit.{Sought}
 use Rattle.holdings.specs.Room.{usedAfter}
 use Rattle.holdings.specs.laws.Room.{used-after}
@@ -68,12 +68,11 @@ module _ (f : Handed) (register : List ℕ) (c : Formed f register) where
 
   -- so they can be stored under the file's stamp
   pub lines-storable : Each (λ l. storable (fileStamp f) l ≡ true) ls
-  lines-storable =
-      each-map (λ l k. his-storable (sender (f .hgv)) (listSequence (f .hgv)) (f .reception) l (header-list (f .hgv) (c .headed)) (c .received) (k .0) (k .1)) (each-both lines-his lines-hold)
+  lines-storable = each-storable (sender (f .hgv)) (listSequence (f .hgv)) (f .reception) (header-list (f .hgv) (c .headed)) (c .received) lines-his lines-hold
 
   -- and their slots have their PANs and actors
   pub lines-made : Each (Makes (slotOf (fileStamp f))) ls
-  lines-made = each-map (λ l k. slot-makes (fileStamp f) l k) lines-storable
+  lines-made = each-makes (fileStamp f) lines-storable
 
   -- the number of records that follow, as it is reckoned
   pub following-used : usedAfter (f .mode) (sender (f .hgv)) (records register) ls ≡ length (following f register)

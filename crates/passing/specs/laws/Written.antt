@@ -30,7 +30,7 @@ use Rattle.times.specs.Time.{realTime}
 use Rattle.times.specs.laws.Moment.{real-length}
 use Rattle.columns.specs.Columns as columns
 use Rattle.lines.specs.Rules.{lineFault}
-use Rattle.lines.specs.End.{recordOf}
+use Rattle.records.specs.Slot.{slotOf}
 use Rattle.hgv.specs.Layout.{linesIn, linesOf}
 use Rattle.hgv.specs.laws.Layout.{length-lines}
 use Rattle.header.specs.Header.{sender, receiver, listSequence, previous, count, creation, version}
@@ -43,7 +43,7 @@ use Rattle.thinness.specs.laws.Thin.{incremental-thick}
 use Rattle.hgc.specs.laws.Confirmation.{length-confirmation}
 use Rattle.importer.specs.declared.Imported.{Imported}
 use Rattle.importer.specs.Handed.{Handed, handed}
-use Rattle.importer.specs.Import.{judged, following, confirmed, judgedStops, success}
+use Rattle.importer.specs.Import.{judged, fileStamp, following, confirmed, judgedStops, success}
 use Rattle.importer.specs.Promises.{Import}
 use Rattle.stops.specs.laws.Clear.{Clear}
 use Rattle.importer.specs.laws.Numbers.{number-judged}
@@ -202,8 +202,8 @@ module _ (g : Given) (out : List ℕ) (w : Written) (after : List ℕ) (o : Writ
             rw bare
             (omega (
               arith,
-              laws.stored-most (map (recordOf reception) (pick good vs (linesOf list))) [],
-              length-map (pick good vs (linesOf list)) (recordOf reception),
+              laws.stored-most (map (slotOf (fileStamp f)) (pick good vs (linesOf list))) [],
+              length-map (pick good vs (linesOf list)) (slotOf (fileStamp f)),
               pick-length good vs (linesOf list),
               length-lines list,
               lines-are,

@@ -12,7 +12,6 @@ use Rattle.theory.specs.laws.Same.{eqs-true}
 use Rattle.theory.specs.laws.Truth.{and-left, and-right}
 use Rattle.theory.specs.Distinct.{distinct}
 use Rattle.theory.specs.Each.{Each}
-use Rattle.theory.specs.laws.Each.{each-map, each-both}
 use Rattle.theory.specs.Walk.{each}
 use Rattle.theory.specs.laws.Parts.{length-chop}
 use Rattle.theory.specs.Pick.{good, bad}
@@ -22,9 +21,9 @@ use Rattle.times.specs.Time.{realTime}
 use Rattle.columns.specs.Columns.{panOf}
 use Rattle.stamps.specs.Stamp.{stamp}
 use Rattle.records.specs.Slot.{slotOf, storable}
-use Rattle.records.specs.laws.Stamped.{his-storable}
+use Rattle.records.specs.laws.Stamped.{each-storable}
 use Rattle.upkeep.specs.Makes.{Makes}
-use Rattle.upkeep.specs.laws.Makes.{slot-makes}
+use Rattle.upkeep.specs.laws.Makes.{each-makes}
 use Rattle.header.specs.Header.{sender, listSequence, headerHolds}
 use Rattle.header.specs.laws.Header.{header-list}
 use Rattle.hgv.specs.Layout.{widthOf, linesIn, linesOf}
@@ -98,11 +97,10 @@ module _ (h g : List ℕ) where
     -- beside a header in form each can be stored under the stamp of the list that the HGC names
     module _ (headed : headerHolds h ≡ true) where
       pub taken-storable : Each (λ l. storable (stamp (listOf g) (receptionOf g)) l ≡ true) (takenBy h g)
-      taken-storable =
-          each-map (λ l k. his-storable (sender h) (listOf g) (receptionOf g) l (rw list-held (header-list h headed)) received-held (k .0) (k .1)) (each-both (matched .own) (matched .records))
+      taken-storable = each-storable (sender h) (listOf g) (receptionOf g) (rw list-held (header-list h headed)) received-held (matched .own) (matched .records)
 
       pub taken-made : Each (Makes (slotOf (stamp (listOf g) (receptionOf g)))) (takenBy h g)
-      taken-made = each-map (λ l k. slot-makes (stamp (listOf g) (receptionOf g)) l k) taken-storable
+      taken-made = each-makes (stamp (listOf g) (receptionOf g)) taken-storable
 
 -- as the code learns it: r says whether the HGC holds, and ms are its marks
 module _ (h g : List ℕ) (r : Bool) (er : r ≡ receiptHolds h g) (k : not r ≡ false) where

@@ -9,6 +9,8 @@ use lib.Dec.{leb}
 use lib.ListN.{length, length-append}
 use Rattle.theory.specs.Text.{bytes}
 use Rattle.theory.specs.Every.{run}
+use Rattle.theory.specs.Each.{Each}
+use Rattle.theory.specs.laws.Each.{each-map, each-both}
 use Rattle.theory.specs.laws.Same.{eqs-true}
 use Rattle.theory.specs.laws.Truth.{and-left, and-right}
 use Rattle.sizes.specs.Sizes.{slotLength, slotEnd, stampLength, stampFrom, timeLength}
@@ -100,6 +102,10 @@ module _ (s l : List ℕ) (h : storable s l ≡ true) where
       ∙ record-holds (receptionIn s) l line-holds (t .received)
 
 -- the lines of a sender that keep the rules of a record can be stored under the stamp of a list of his
-pub his-storable : (who list reception l : List ℕ) → sequence who list ≡ true → realTime reception ≡ true → ofActor who l ≡ true → recordHolds l ≡ true → storable (stamp list reception) l ≡ true
-unfolding storable ofActor
-his-storable who list reception l s t a h = rw (h, eqs-true (actor l) who a, stamp-holds who list reception s t)
+module _ (who list reception : List ℕ) (listed : sequence who list ≡ true) (received : realTime reception ≡ true) where
+  one-storable : (l : List ℕ) → ofActor who l ≡ true → recordHolds l ≡ true → storable (stamp list reception) l ≡ true
+  unfolding storable ofActor
+  one-storable l a h = rw (h, eqs-true (actor l) who a, stamp-holds who list reception listed received)
+
+  pub each-storable : {ls : List (List ℕ)} → Each (λ l. ofActor who l ≡ true) ls → Each (λ l. recordHolds l ≡ true) ls → Each (λ l. storable (stamp list reception) l ≡ true) ls
+  each-storable his hold = each-map (λ l k. one-storable l (k .0) (k .1)) (each-both his hold)

@@ -4,6 +4,7 @@ use mathlib.Core.Bool.{true}
 use mathlib.Core.List.{List, map}
 use Prim.Native.Nat.{ℕ}
 use Rattle.theory.specs.Each.{Each, none, more}
+use Rattle.theory.specs.laws.Each.{each-map}
 use Rattle.columns.specs.Columns.{panOf}
 use Rattle.records.specs.Slot.{slotOf, storable}
 use Rattle.records.specs.laws.Stamped.{slot-length, slot-pan, slot-actor}
@@ -13,6 +14,9 @@ use Rattle.upkeep.specs.laws.Stays.{written-used}
 -- the slot of a line that can be stored under the stamp
 pub slot-makes : (s l : List ℕ) → storable s l ≡ true → Makes (slotOf s) l
 slot-makes s l h = record { pan = slot-pan s l h; his = slot-actor s l h; size = slot-length s l h; used = written-used s l h }
+
+pub each-makes : (s : List ℕ) {ls : List (List ℕ)} → Each (λ l. storable s l ≡ true) ls → Each (Makes (slotOf s)) ls
+each-makes s = each-map (λ l k. slot-makes s l k)
 
 module _ (make : List ℕ → List ℕ) where
   pub made-pans : {ls : List (List ℕ)} → Each (Makes make) ls → map panOf (map make ls) ≡ map panOf ls

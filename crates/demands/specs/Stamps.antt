@@ -1,0 +1,41 @@
+-- Request 7: which file touched this account? Its sentences, and under each the theorem that says so, of any outcome that the contracts
+-- admit. Assumes nothing.
+use mathlib.Core.Path.{_≡_}
+use mathlib.Core.Bool.{true, false}
+use mathlib.Core.List.{List, map}
+use Prim.Native.Nat.{ℕ}
+use Rattle.theory.specs.Same.{mem}
+use Rattle.theory.specs.Each.{Each}
+use Rattle.theory.specs.Pick.{good, pick}
+use Rattle.columns.specs.Columns.{actor, panOf}
+use Rattle.stamps.specs.Stamp.{stampIn, listIn, receptionIn, stampHolds}
+use Rattle.header.specs.Header.{sender, listSequence}
+use Rattle.hgv.specs.Layout.{linesOf}
+use Rattle.slots.specs.Slots.{records}
+use Rattle.register.specs.Register.{inOrder}
+use Rattle.importer.specs.declared.Imported.{Imported}
+use Rattle.importer.specs.Handed.{Handed}
+use Rattle.importer.specs.Promises.{Import}
+use Rattle.demands.specs.Verdicts.{Verdicts}
+use Rattle.demands.specs.laws.Stamps as laws
+
+-- "Form 23 asks the stamp to be a list sequence of the record's actor and a real time": in a register in order each record has such a
+-- stamp
+pub each-stamped : (b : List ℕ) → inOrder b ≡ true → Each (λ x. stampHolds (actor x) (stampIn x) ≡ true) (records b)
+each-stamped = laws.each-stamped
+
+-- Of what was handed over the import answered r with the number 0, and left the register b and the buffer g; vs are the verdicts of the
+-- file's lines, beside the register as it was
+module _ (f : Handed) (register : List ℕ) (r : Imported) (b g : List ℕ) (o : Import f register r b g) (z : r .number ≡ 0)
+    (vs : List ℕ) (v : Verdicts (f .rows) (sender (f .hgv)) (records register) (linesOf (f .hgv)) vs) where
+  -- the PANs that a taken line names
+  abbrev named : List (List ℕ)
+  named = map panOf (pick good vs (linesOf (f .hgv)))
+
+  -- "Every taken line stamps its slot": every record whose PAN a taken line names carries the file's list and its reception,
+  pub touched : Each (λ x. mem (panOf x) named ≡ true → (listIn (stampIn x) ≡ listSequence (f .hgv)) × (receptionIn (stampIn x) ≡ f .reception)) (records b)
+  touched = laws.touched f register r b g o z vs v
+
+  -- and every other record the stamp that it had: byte for byte it is a record that was held
+  pub untouched : Each (λ x. mem (panOf x) named ≡ false → mem x (records register) ≡ true) (records b)
+  untouched = laws.untouched f register r b g o z vs v
