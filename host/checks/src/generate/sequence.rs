@@ -2,7 +2,7 @@
 
 use super::case::lines;
 use super::damage::{change_one_byte, wrong_mode, wrong_time};
-use super::file::{header, hgv, records, register};
+use super::file::{header, hgv, register, slots};
 use super::full::{full_list, pans_of};
 use super::line::reception;
 use super::rng::Rng;
@@ -51,10 +51,10 @@ fn spoil(rng: &mut Rng, event: &mut Event) {
 pub fn start(seed: u64) -> Vec<u8> {
     let world = World::new(&mut Rng::new(seed));
     let mut rng = Rng::new(seed ^ 0xABCD);
-    let slots = [0, 1, 4, 8, 16, 40][rng.below(6)];
-    let most = if rng.one_in(2) { slots / 2 } else { 0 };
-    let records = records(&mut rng, &world, most, None);
-    register(&records, slots - records.len())
+    let all = [0, 1, 4, 8, 16, 40][rng.below(6)];
+    let most = if rng.one_in(2) { all / 2 } else { 0 };
+    let used = slots(&mut rng, &world, most, None);
+    register(&used, all - used.len())
 }
 
 /// The rows change on the way: an issuer may lose one or gain one.
