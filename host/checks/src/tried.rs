@@ -2,6 +2,7 @@
 //! and every time. An implementation is handed over as the function that is asked.
 
 pub mod fields;
+pub mod lookups;
 pub mod pans;
 pub mod plates;
 pub mod stamps;

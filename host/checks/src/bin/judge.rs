@@ -3,7 +3,7 @@
 //! are asked first.
 
 use graftspindle_checks::plain::register::SLOT;
-use graftspindle_checks::tried::{pans, stamps, times, trials, Trial};
+use graftspindle_checks::tried::{lookups, pans, stamps, times, trials, Trial};
 use graftspindle_checks::vectors::{first_difference, PROGRAMS};
 use graftspindle_checks::{plain, sample};
 use std::panic::{catch_unwind, set_hook, AssertUnwindSafe};
@@ -32,6 +32,10 @@ fn verdicts(lines: &[Vec<u8>]) -> Vec<u8> {
     told
 }
 
+fn by_plate(register: &[u8], plate: &[u8]) -> (u64, std::ops::Range<usize>) {
+    plain::by_plate(register, plate, b"DE ", sample::RECEPTION)
+}
+
 fn is_real(time: &[u8]) -> bool {
     plain::by_plate(&[], b"ABC123    ", b"NO ", time).0 == 41
 }
@@ -39,7 +43,8 @@ fn is_real(time: &[u8]) -> bool {
 fn by_lists() -> Option<String> {
     let of_trial = |trial: Trial| trial.as_records(plain::in_order).or_else(|| trial.as_lines(verdicts));
     let of_record = || pans::all_lengths(plain::in_order).or_else(|| stamps::all(plain::in_order));
-    trials().find_map(of_trial).or_else(of_record).or_else(|| times::all_times(is_real))
+    let of_lookup = || lookups::all(plain::by_pan, by_plate).or_else(|| times::all_times(is_real));
+    trials().find_map(of_trial).or_else(of_record).or_else(of_lookup)
 }
 
 pub fn main() {

@@ -5,7 +5,7 @@ use graftspindle::raw::Counted;
 use graftspindle_checks::generate::{question, sequence, start, Event};
 use graftspindle_checks::plain::register::SLOT;
 use graftspindle_checks::sample;
-use graftspindle_checks::tried::stamps;
+use graftspindle_checks::tried::{lookups, stamps};
 
 const SEQUENCES: u64 = 1_000;
 
@@ -223,6 +223,10 @@ fn lookups_answer_the_stamp_too() {
             assert!(number != 0 || (part.start % 168, part.len()) == (0, 168));
             found += 1;
         }
+    }
+    for engine in ENGINES {
+        let by_plate = |register: &[u8], plate: &[u8]| (engine.by_plate)(register, plate, b"DE ", R0);
+        assert_eq!(lookups::all(engine.by_pan, by_plate), None, "{}", engine.name);
     }
     println!("records looked up: {found}");
     assert!(found >= 10_000);
