@@ -7,6 +7,7 @@ use super::full::{full_list, held};
 use super::line::{break_rule, reception, right_line};
 use super::rng::Rng;
 use super::world::World;
+use crate::plain::line::LINE;
 use crate::plain::{self, register::SLOT};
 
 #[derive(Debug, Clone, PartialEq, Eq)]
@@ -54,6 +55,15 @@ pub fn lines(rng: &mut Rng, world: &World, sender: &[u8], reception: &[u8], most
     lines
 }
 
+/// Now and then a line that says what a record of the sender says already: it touches the record all the same.
+pub fn repeat_held(rng: &mut Rng, lines: &mut Vec<Vec<u8>>, register: &[u8], sender: &[u8]) {
+    let held: Vec<&[u8]> = used(register).filter(|slot| &slot[1..7] == sender).collect();
+    if !held.is_empty() && rng.one_in(3) {
+        let record = held[rng.below(held.len())][..LINE].to_vec();
+        lines.insert(rng.below(lines.len() + 1), record);
+    }
+}
+
 /// A case whose blocks are all of the right form; the buffer is long.
 fn right_case(rng: &mut Rng, world: &World) -> (Case, Header) {
     let sender = world.actor(rng);
@@ -69,11 +79,14 @@ fn right_case(rng: &mut Rng, world: &World) -> (Case, Header) {
         true => held(rng, world, &sender, &reception),
         false => slots(rng, world, 10, None),
     };
-    let lines = match about_half {
+    let mut lines = match about_half {
         true => full_list(rng, world, &sender, &reception, &held.concat()),
         false => lines(rng, world, &sender, &reception, most),
     };
     let register = register(&held, most + 1);
+    if !about_half {
+        repeat_held(rng, &mut lines, &register, &sender);
+    }
     let hgv = hgv(&header, &lines);
     let hgc_len = 174 + 130 * lines.len();
     let rows = world.bytes();

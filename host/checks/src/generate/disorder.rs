@@ -16,12 +16,13 @@ pub fn damage_register(rng: &mut Rng, world: &World, register: &mut Vec<u8>) {
         return damage_block(rng, register);
     }
     let from = rng.below(used) * SLOT;
-    match rng.below(14) {
+    match rng.below(15) {
         0 => register.splice(0..0, [0; SLOT]).for_each(drop),
         1 => double_slot(register, from, used),
-        2 => register[from + RECORD - 1] = b'\r',
-        3 => cut_stamps(register),
-        4..=8 => break_record(rng, world, &mut register[from..from + SLOT]),
+        2 => register[from] = rng.other_byte(b'1'),
+        3 => register[from + RECORD - 1] = b'\r',
+        4 => cut_stamps(register),
+        5..=9 => break_record(rng, world, &mut register[from..from + SLOT]),
         _ => break_stamp(rng, &mut register[from..from + SLOT]),
     }
 }
@@ -68,7 +69,7 @@ const WRONG_LISTS: [&[u8]; 4] = [b"HGW", b"hgv", b"HGC", b"   "];
 const WRONG_ENDS: [&[u8]; 4] = [b"0000001", b"1000000", b"       ", b"\0\0\0\0\0\0\0"];
 
 fn break_stamp(rng: &mut Rng, slot: &mut [u8]) {
-    match rng.below(10) {
+    match rng.below(11) {
         0 => put(slot, 132, rng.pick(&[b"900777", b"90012A", b"      "])),
         1 => put(slot, 138, rng.pick(&WRONG_DATES)),
         2 => put(slot, 146, rng.pick(&WRONG_NUMBERS)),
@@ -78,6 +79,7 @@ fn break_stamp(rng: &mut Rng, slot: &mut [u8]) {
         6 => slot[RECORD..RECORD + 33].rotate_left(19),
         7 => slot[RECORD..].fill(0),
         8 => slot[RECORD..].fill([b'0', b' '][rng.below(2)]),
+        9 => put(slot, 129, b"HGV0000000000000000"),
         _ => change_one_byte(rng, &mut slot[RECORD..]),
     }
 }

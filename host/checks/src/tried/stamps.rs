@@ -64,14 +64,25 @@ fn times() -> impl Iterator<Item = Value> {
     digits(2).flat_map(parts).map(|time| (156, time.clone().into_bytes(), is_time_of_day(&time)))
 }
 
+/// What stands for no list or no time elsewhere, the two parts exchanged, and no stamp at all.
+fn others() -> impl Iterator<Item = Value> {
+    let wrong: [(usize, &[u8]); 6] = [
+        (129, b"HGV0000000000000000"),
+        (148, b"00000000000000"),
+        (129, b"20250310050000HGV9001232025031001"),
+        (129, &[0; 40]),
+        (129, &[b' '; 40]),
+        (129, &[b'0'; 40]),
+    ];
+    wrong.into_iter().map(|(from, text)| (from, text.to_vec(), false))
+}
+
 /// The first stamp that is taken for another in a register of one record.
 pub fn all(in_order: impl Fn(&[u8]) -> bool) -> Option<String> {
     let right = sample::slot(sample::line(0));
     let slot = |from: usize, text: &[u8]| [&right[..from - 1], text, &right[from - 1 + text.len()..]].concat();
-    let other = bytes().chain(numbers()).chain(times()).chain(dates());
-    let other =
-        other.map(|(from, text, right)| (slot(from, &text), right)).find(|(slot, right)| in_order(slot) != *right);
-    other.map(|(slot, right)| {
-        format!("stamp: {}: {}", if right { "refused" } else { "let in" }, slot[128..].escape_ascii())
-    })
+    let every = bytes().chain(others()).chain(numbers()).chain(times()).chain(dates());
+    let mut slots = every.map(|(from, text, right)| (slot(from, &text), right));
+    let (other, right) = slots.find(|(slot, right)| in_order(slot) != *right)?;
+    Some(format!("stamp: {}: {}", if right { "refused" } else { "let in" }, other[128..].escape_ascii()))
 }

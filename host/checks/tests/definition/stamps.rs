@@ -73,13 +73,14 @@ fn in_a_full_list() {
 #[test]
 fn by_the_reception() {
     let (line, late) = (with(LINE0, 101, b"20250101000000"), b"20261231235959");
+    let file = hgv(std::slice::from_ref(&line));
     for engine in ENGINES {
-        let outcome = run(engine, 1, late, &free(1), ROW0, &hgv(std::slice::from_ref(&line)), 174);
+        let outcome = run(engine, 1, late, &free(1), ROW0, &file, 174);
         let expected = [with(&line, 101, late), stamp(LIST, late)].concat();
         assert_eq!(outcome.register, expected);
         assert_eq!(&outcome.hgc[32..46], late);
         let mut copy = free(1);
-        (engine.update)(1, &mut copy, &hgv(&[line.clone()]), &outcome.hgc);
+        assert_eq!((engine.update)(1, &mut copy, &file, &outcome.hgc).number, 0);
         assert_eq!(copy, expected, "the HGC's list and reception");
     }
 }
