@@ -5,9 +5,11 @@ use super::file::{put_actor, used};
 use super::line::{break_rule, put};
 use super::rng::Rng;
 use super::world::World;
+use crate::plain::line::LINE;
 use crate::plain::register::SLOT;
 
-const RECORD: usize = 128;
+/// What a slot begins with is as long as a line.
+const RECORD: usize = LINE;
 
 /// A slot that an earlier damage has cut is none.
 pub fn damage_register(rng: &mut Rng, world: &World, register: &mut Vec<u8>) {

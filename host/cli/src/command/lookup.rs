@@ -25,8 +25,8 @@ pub static PLATE: Command = Command {
     options: &[Needed(&REGISTER), Optional(&AT)],
     words: &["PLATE", "NATIONALITY"],
     help: "\
-Shows the slot of the register R whose record has the plate and the nationality and is active at the time, which is UTC and
-the present one unless it is given; as lookup pan does. Letter case counts.
+Shows, as lookup pan does, the slot of the register R whose record has the plate and the nationality and is active at the
+time, which is UTC and the present one unless it is given. Letter case counts.
 ",
     run: by_plate,
 };

@@ -21,9 +21,9 @@ Counts the records of the register R: for each actor how many are active and how
 the present one unless it is given; and the free slots. With --weights it lists the records whose weight a line of their
 tariff cannot have, since they may have been priced in the wrong class: as register list does, with the tariff, the weight
 code and the first and the last kilogram that it covers. The last line says how many of how many records these are. The
-status is 0 with such records too. With --lists, which knows no time, it counts the records by the list that touched each
-last: a row for each list, in the order of sender, date and number, with how many records these are and the first and the
-last reception that stands in them. The last line says how many lists and how many records there are.
+status is 0 with such records too. With --lists it counts the records by the list that touched each last, whatever the time:
+a row for each list, in the order of sender, date and number, with how many records it has and the first and the last
+reception that stands in these. The last line says how many lists and how many records there are.
 ",
     run,
 };
