@@ -2,6 +2,7 @@
 
 pub mod case;
 pub mod damage;
+pub mod disorder;
 pub mod file;
 pub mod full;
 pub mod giving;

@@ -5,8 +5,10 @@ use std::ops::Range;
 
 use crate::plain::import::{finish_import, import_stop_to_32, import_stopped};
 use crate::plain::lookup::{answer_by_plate, plate_stop};
-use crate::plain::provider::{count_stopped, finish_read_back, finish_update, read_back_stop_to_32, update_stop_to_32};
-use crate::plain::register::{self, after, SLOT};
+use crate::plain::provider::{
+    count_stopped, finish_read_back, finish_update, read_back_stop_to_32, stamp_told, update_stop_to_32,
+};
+use crate::plain::register::{self, after, Stamp, SLOT};
 use crate::plain::writer::write_by;
 use crate::plain::{confirmation, hgv, line, pairing, rows, verdict};
 use graftspindle::raw::{Counted, Imported, List, Written};
@@ -37,15 +39,15 @@ fn verdicts(lines: &[&[u8]], sender: &[u8], rows: &[u8], used: &[&[u8]]) -> Vec<
     lines.iter().map(|l| verdict::reason_of(rule(l, line::pan(l)), l)).collect()
 }
 
-fn after_mode_1(register: &[u8], taken: &[&[u8]], reception: &[u8]) -> Vec<Vec<u8>> {
+fn after_mode_1(register: &[u8], taken: &[&[u8]], stamp: &Stamp) -> Vec<Vec<u8>> {
     let used = register::used_slots(register);
     let places = places(&used);
     let mut after: Vec<Vec<u8>> = used.iter().map(|slot| slot.to_vec()).collect();
     for line in taken {
-        let record = register::record_of(line, reception);
+        let slot = register::slot_of(line, stamp);
         match places.get(line::pan(line)) {
-            Some(&place) => after[place] = record,
-            None => after.push(record),
+            Some(&place) => after[place] = slot,
+            None => after.push(slot),
         }
     }
     after
@@ -59,7 +61,8 @@ pub fn import(mode: u64, reception: &[u8], register: &mut [u8], rows: &[u8], hgv
     let (lines, sender) = (hgv::lines(hgv), hgv::sender(hgv));
     let verdicts = verdicts(&lines, sender, rows, &register::used_slots(register));
     let taken = verdict::taken_lines(&lines, &verdicts);
-    let after = after(mode, register, sender, &taken, reception, after_mode_1);
+    let stamp = Stamp { list: hgv::list_sequence(hgv), reception };
+    let after = after(mode, register, sender, &taken, &stamp, after_mode_1);
     finish_import(mode, reception, register, hgv, hgc, &verdicts, &after)
 }
 
@@ -143,8 +146,7 @@ pub fn update(mode: u64, copy: &mut [u8], hgv: &[u8], hgc: &[u8]) -> Counted {
         return count_stopped(52);
     };
     let taken = pairing::marked(&hgv::lines(hgv), &marks, true);
-    let reception = confirmation::reception(hgc);
-    let after = after(mode, copy, hgv::sender(hgv), &taken, reception, after_mode_1);
+    let after = after(mode, copy, hgv::sender(hgv), &taken, &stamp_told(hgc), after_mode_1);
     finish_update(copy, &marks, &after)
 }
 

@@ -68,6 +68,7 @@ pub const DIGITS_OR_BLANK: &[u8] = b"0123456789 ";
 pub const HEX_DIGITS: &[u8] = b"0123456789ABCDEF";
 pub const CAPITALS: &[u8] = b"ABCDEFGHIJKLMNOPQRSTUVWXYZ";
 pub const ZERO: &[u8] = b"0";
+pub const NOT_ZERO: &[u8] = b"123456789";
 pub const BLANK: &[u8] = b" ";
 
 /// What a plate may have, and what may stand behind it.

@@ -1,10 +1,14 @@
-//! Files as long as is asked for, of lines that are right or that have one fault; and the accounts of such lines.
+//! Files as long as is asked for, of lines that are right or that have one fault; the accounts of such lines, and the slots
+//! that an import makes of them.
 
 use crate::lists::COLUMNS;
 use graftspindle::raw::List;
 
 pub const RECEPTION: &[u8] = b"20250310050000";
 const SENDER: &str = "900123";
+
+/// The date and the number of each list.
+const OF_DAY: &str = "2025031001";
 
 /// A number and a Luhn digit behind it: a PAN of 16 digits.
 pub fn pan(i: usize) -> String {
@@ -48,7 +52,7 @@ pub fn faulty_line(i: usize) -> String {
 
 pub fn hgv_of<L: AsRef<[u8]>>(lines: &[L]) -> Vec<u8> {
     let header = format!(
-        "0{SENDER}000002HGV{SENDER}2025031001HGV{:016}{:014}{:015}20250310040000120001{:027}\n",
+        "0{SENDER}000002HGV{SENDER}{OF_DAY}HGV{:016}{:014}{:015}20250310040000120001{:027}\n",
         0,
         0,
         lines.len(),
@@ -59,6 +63,18 @@ pub fn hgv_of<L: AsRef<[u8]>>(lines: &[L]) -> Vec<u8> {
     lines.iter().for_each(|line| file.extend(line.as_ref()));
     file.extend(format!("2{:062}\n", 0).into_bytes());
     file
+}
+
+/// The slot of a record: a list of its actor brought it at the sample's reception. For a line of the sample, whose end stays,
+/// this is the slot that the sample's file leaves.
+pub fn slot(record: impl AsRef<[u8]>) -> Vec<u8> {
+    let record = record.as_ref();
+    [record, b"HGV", &record[1..7], OF_DAY.as_bytes(), RECEPTION, b"0000000"].concat()
+}
+
+/// The slots of records, one behind the other.
+pub fn slots<R: AsRef<[u8]>>(records: impl IntoIterator<Item = R>) -> Vec<u8> {
+    records.into_iter().flat_map(slot).collect()
 }
 
 /// A file of so many lines, each with a PAN and a plate of its own.

@@ -2,8 +2,10 @@
 //! and every time. An implementation is handed over as the function that is asked.
 
 pub mod fields;
+pub mod lookups;
 pub mod pans;
 pub mod plates;
+pub mod stamps;
 pub mod times;
 
 use crate::sample;
@@ -56,7 +58,7 @@ impl Trial {
     /// The same, with each value in a register of one record.
     pub fn as_records(&self, in_order: impl Fn(&[u8]) -> bool) -> Option<String> {
         let mut values = self.all.iter().map(|(line, right)| (line, *right || self.lines_alone));
-        let other = values.find(|(line, right)| in_order(line) != *right);
+        let other = values.find(|(line, right)| in_order(&sample::slot(line)) != *right);
         other.map(|(line, right)| self.told(line, if right { "refused" } else { "let in" }))
     }
 

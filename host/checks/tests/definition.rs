@@ -26,6 +26,8 @@ mod provider;
 mod registers;
 #[path = "definition/size.rs"]
 mod size;
+#[path = "definition/stamps.rs"]
+mod stamps;
 #[path = "definition/thin.rs"]
 mod thin;
 #[path = "definition/vectors.rs"]

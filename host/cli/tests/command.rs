@@ -44,6 +44,8 @@ mod power;
 mod provider;
 #[path = "command/replaced.rs"]
 mod replaced;
+#[path = "command/stamps.rs"]
+mod stamps;
 #[path = "command/steps.rs"]
 mod steps;
 #[path = "command/streams.rs"]

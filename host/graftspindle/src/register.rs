@@ -1,8 +1,10 @@
 //! The register of a road, or a provider's copy of his part of it, as one value.
 
+use std::ops::Range;
+
 use crate::number::unless_refused;
 use crate::sizes::SLOT;
-use crate::{raw, Mode, Number};
+use crate::{raw, Mode, Number, Slot};
 
 /// What is handed over with a register to import an HGV into it.
 #[derive(Clone, Copy, Debug)]
@@ -72,15 +74,18 @@ impl Register {
     }
 
     /// The slot itself that holds the PAN: 19 bytes, digits and then blanks.
-    pub fn by_pan(&self, pan: &[u8]) -> Result<&[u8], Number> {
-        let (number, part) = raw::by_pan(&self.0, pan);
-        unless_refused(number, &self.0[part])
+    pub fn by_pan(&self, pan: &[u8]) -> Result<Slot<'_>, Number> {
+        self.found(raw::by_pan(&self.0, pan))
     }
 
     /// The slot itself, of the one record with the plate (10 bytes) and the nationality (3) that is active at the time.
-    pub fn by_plate(&self, plate: &[u8], nationality: &[u8], time: &[u8]) -> Result<&[u8], Number> {
-        let (number, part) = raw::by_plate(&self.0, plate, nationality, time);
-        unless_refused(number, &self.0[part])
+    pub fn by_plate(&self, plate: &[u8], nationality: &[u8], time: &[u8]) -> Result<Slot<'_>, Number> {
+        self.found(raw::by_plate(&self.0, plate, nationality, time))
+    }
+
+    fn found(&self, (number, part): (u64, Range<usize>)) -> Result<Slot<'_>, Number> {
+        unless_refused(number, ())?;
+        Ok(Slot::at(self.0[part].try_into().expect("it is proved that a lookup answers a whole slot")))
     }
 
     /// The provider's update of this copy of his: applies the lines of the HGV that its HGC says were taken.
@@ -89,14 +94,14 @@ impl Register {
         unless_refused(done.number, Counts { taken: done.taken, rejected: done.rejected })
     }
 
-    /// All slots, used and free.
-    pub fn slots(&self) -> impl Iterator<Item = &[u8]> {
-        self.0.chunks(SLOT)
+    /// All slots, used and free, of a register in order.
+    pub fn slots(&self) -> impl Iterator<Item = Slot<'_>> {
+        self.0.as_chunks().0.iter().map(Slot::at)
     }
 
     /// The slots that are not free, of a register in order.
-    pub fn records(&self) -> impl Iterator<Item = &[u8]> {
-        self.slots().take_while(|slot| slot[0] != 0)
+    pub fn records(&self) -> impl Iterator<Item = Slot<'_>> {
+        self.slots().take_while(|slot| slot.bytes()[0] != 0)
     }
 }
 

@@ -7,8 +7,14 @@ pub const HEADER: usize = 128;
 /// A line of an HGV.
 pub const LINE: usize = 128;
 
+/// The record at the beginning of a used slot: a taken line, its Valid to replaced by its end.
+pub const RECORD: usize = 128;
+
+/// The stamp behind a record: the list sequence of the file that brought it, its reception, and seven zeros.
+pub const STAMP: usize = 40;
+
 /// A slot of a register.
-pub const SLOT: usize = 128;
+pub const SLOT: usize = RECORD + STAMP;
 
 /// The footer of an HGV or an HGC.
 pub const FOOTER: usize = 64;

@@ -2,7 +2,8 @@
 //! says. `host/mutate` compiles it with each change. Its arguments are the folder of the crates, and the program whose vectors
 //! are asked first.
 
-use graftspindle_checks::tried::{pans, times, trials, Trial};
+use graftspindle_checks::plain::register::SLOT;
+use graftspindle_checks::tried::{lookups, pans, stamps, times, trials, Trial};
 use graftspindle_checks::vectors::{first_difference, PROGRAMS};
 use graftspindle_checks::{plain, sample};
 use std::panic::{catch_unwind, set_hook, AssertUnwindSafe};
@@ -22,7 +23,7 @@ fn by_vectors(crates: &Path, first: &str) -> Option<String> {
 /// The verdicts of lines in an import that is read back.
 fn verdicts(lines: &[Vec<u8>]) -> Vec<u8> {
     let (file, n) = (sample::hgv_of(lines), lines.len());
-    let (mut register, mut hgc, mut told) = (vec![0; 128 * n], vec![0; 174 + 130 * n], vec![0; n]);
+    let (mut register, mut hgc, mut told) = (vec![0; SLOT * n], vec![0; 174 + 130 * n], vec![0; n]);
     let done = plain::import(1, sample::RECEPTION, &mut register, &sample::row(), &file, &mut hgc);
     let back = plain::read_back(&file, &hgc[..done.length as usize], &mut told);
     if done.number + back.number > 0 {
@@ -31,13 +32,19 @@ fn verdicts(lines: &[Vec<u8>]) -> Vec<u8> {
     told
 }
 
+fn by_plate(register: &[u8], plate: &[u8]) -> (u64, std::ops::Range<usize>) {
+    plain::by_plate(register, plate, b"DE ", sample::RECEPTION)
+}
+
 fn is_real(time: &[u8]) -> bool {
     plain::by_plate(&[], b"ABC123    ", b"NO ", time).0 == 41
 }
 
 fn by_lists() -> Option<String> {
     let of_trial = |trial: Trial| trial.as_records(plain::in_order).or_else(|| trial.as_lines(verdicts));
-    trials().find_map(of_trial).or_else(|| pans::all_lengths(plain::in_order)).or_else(|| times::all_times(is_real))
+    let of_record = || pans::all_lengths(plain::in_order).or_else(|| stamps::all(plain::in_order));
+    let of_lookup = || lookups::all(plain::by_pan, by_plate).or_else(|| times::all_times(is_real));
+    trials().find_map(of_trial).or_else(of_record).or_else(of_lookup)
 }
 
 pub fn main() {

@@ -1,12 +1,14 @@
 //! One import: everything handed over.
 
 use super::damage::*;
-use super::file::{header, hgv, records, register, Header};
+use super::disorder::damage_register;
+use super::file::{header, hgv, register, slots, used, Header};
 use super::full::{full_list, held};
 use super::line::{break_rule, reception, right_line};
 use super::rng::Rng;
 use super::world::World;
-use crate::plain;
+use crate::plain::line::LINE;
+use crate::plain::{self, register::SLOT};
 
 #[derive(Debug, Clone, PartialEq, Eq)]
 pub struct Case {
@@ -53,6 +55,15 @@ pub fn lines(rng: &mut Rng, world: &World, sender: &[u8], reception: &[u8], most
     lines
 }
 
+/// Now and then a line that says what a record of the sender says already: it touches the record all the same.
+pub fn repeat_held(rng: &mut Rng, lines: &mut Vec<Vec<u8>>, register: &[u8], sender: &[u8]) {
+    let held: Vec<&[u8]> = used(register).filter(|slot| &slot[1..7] == sender).collect();
+    if !held.is_empty() && rng.one_in(3) {
+        let record = held[rng.below(held.len())][..LINE].to_vec();
+        lines.insert(rng.below(lines.len() + 1), record);
+    }
+}
+
 /// A case whose blocks are all of the right form; the buffer is long.
 fn right_case(rng: &mut Rng, world: &World) -> (Case, Header) {
     let sender = world.actor(rng);
@@ -64,15 +75,18 @@ fn right_case(rng: &mut Rng, world: &World) -> (Case, Header) {
     }
     let most = if rng.one_in(40) { 60 } else { 9 };
     let about_half = mode == 2 && rng.one_in(3);
-    let records = match about_half {
+    let held = match about_half {
         true => held(rng, world, &sender, &reception),
-        false => records(rng, world, 10, None),
+        false => slots(rng, world, 10, None),
     };
-    let lines = match about_half {
-        true => full_list(rng, world, &sender, &reception, &records.concat()),
+    let mut lines = match about_half {
+        true => full_list(rng, world, &sender, &reception, &held.concat()),
         false => lines(rng, world, &sender, &reception, most),
     };
-    let register = register(&records, most + 1);
+    let register = register(&held, most + 1);
+    if !about_half {
+        repeat_held(rng, &mut lines, &register, &sender);
+    }
     let hgv = hgv(&header, &lines);
     let hgc_len = 174 + 130 * lines.len();
     let rows = world.bytes();
@@ -89,8 +103,8 @@ fn exact_length(case: &Case) -> usize {
 
 /// Free slots for the lines cut down to a few.
 fn fewer_slots(rng: &mut Rng, case: &mut Case) {
-    let used = case.register.chunks(128).filter(|slot| slot[0] == b'1').count();
-    case.register.truncate(128 * (used + rng.below(4)));
+    let used = used(&case.register).count();
+    case.register.truncate(SLOT * (used + rng.below(4)));
 }
 
 fn damage_hgv(rng: &mut Rng, case: &mut Case, kind: usize) {

@@ -1,8 +1,7 @@
 //! Damage: one thing wrong at a time, so that a stop is reached and not an earlier one.
 
-use super::line::{break_rule, put};
+use super::line::put;
 use super::rng::Rng;
-use super::world::World;
 
 pub fn change_one_byte(rng: &mut Rng, block: &mut [u8]) {
     if !block.is_empty() {
@@ -42,37 +41,6 @@ pub fn wrong_time(rng: &mut Rng) -> Vec<u8> {
         b"00000000000000",
     ];
     rng.pick(&wrong).to_vec()
-}
-
-/// A slot that an earlier damage has cut is none.
-pub fn damage_register(rng: &mut Rng, world: &World, register: &mut Vec<u8>) {
-    let used = register.chunks_exact(128).filter(|slot| slot[0] == b'1').count();
-    match rng.below(12) {
-        0 => change_one_byte(rng, register),
-        1 => change_length(rng, register, 128),
-        2 if used > 0 => register.splice(0..0, [0; 128]).for_each(drop),
-        3 if used > 0 => double_slot(rng, register, used),
-        4 | 9..=11 if used > 0 => break_slot(rng, world, register, used),
-        5 if used > 0 => register[used * 128 - 1] = b'\r',
-        6 => register.extend([b'0'; 128]),
-        7 => register.extend([0; 127].iter().chain(&[1])),
-        8 if rng.one_in(20) => register.resize(128 * 8193, 0),
-        _ => register.push(0),
-    }
-}
-
-/// The same PAN twice, in different records.
-fn double_slot(rng: &mut Rng, register: &mut Vec<u8>, used: usize) {
-    let from = rng.below(used) * 128;
-    let mut slot = register[from..from + 128].to_vec();
-    put(&mut slot, 2, b"900777");
-    register.splice(used * 128..used * 128, slot);
-}
-
-fn break_slot(rng: &mut Rng, world: &World, register: &mut [u8], used: usize) {
-    let from = rng.below(used) * 128;
-    let rule = [1, 2, 5, 6, 7, 8, 9].get(rng.below(16)).copied().unwrap_or(10);
-    break_rule(rng, world, &mut register[from..from + 128], rule);
 }
 
 const WRONG_ROWS: [&[u8]; 12] = [

@@ -1,8 +1,9 @@
-//! HGV files from lines, and registers from records.
+//! HGV files from lines, and registers from records and their stamps.
 
-use super::line::{put, put_wrong_weight, reception, right_line, valid_to};
+use super::line::{put, put_wrong_weight, reception, right_line, valid_to, TIMES};
 use super::rng::Rng;
 use super::world::World;
+use crate::plain::register::SLOT;
 
 /// The header's fields; `hgv` writes them with the number of lines as the count.
 #[derive(Clone)]
@@ -22,10 +23,15 @@ fn sequence_name(sender: &[u8], date: &[u8], within_day: usize) -> Vec<u8> {
     name
 }
 
-pub fn header(rng: &mut Rng, sender: &[u8]) -> Header {
+/// The name of a list: few of a sender, so that a file can have the one that stands in a stamp.
+fn list(rng: &mut Rng, sender: &[u8]) -> Vec<u8> {
     let within_day = [1, 99, 10][rng.below(3)];
     let dates: [&[u8]; 4] = [b"20250310", b"20240229", b"00010101", b"99991231"];
-    let list = sequence_name(sender, rng.pick(&dates), within_day);
+    sequence_name(sender, rng.pick(&dates), within_day)
+}
+
+pub fn header(rng: &mut Rng, sender: &[u8]) -> Header {
+    let list = list(rng, sender);
     let previous = match rng.below(3) {
         0 => list.clone(),
         1 => sequence_name(sender, b"20250309", 1),
@@ -57,17 +63,30 @@ pub fn footer() -> Vec<u8> {
     footer
 }
 
-/// Records with different PANs. Their PANs come from the providers' rows, but a record may
+/// The slot of a record: a list of its actor's brought it, some time, as it may have been.
+pub fn slot(rng: &mut Rng, record: Vec<u8>) -> Vec<u8> {
+    let list = list(rng, &record[1..7]);
+    let received = if rng.one_in(4) { rng.pick(&TIMES).to_vec() } else { reception(rng) };
+    [record, list, received, vec![b'0'; 7]].concat()
+}
+
+/// Another actor's record, brought by a list of his.
+pub fn put_actor(slot: &mut [u8], actor: &[u8]) {
+    put(slot, 2, actor);
+    put(slot, 132, actor);
+}
+
+/// Used slots with different PANs. Their PANs come from the providers' rows, but a record may
 /// stand under another actor: rows are not asked of records. Nor are limits of weight.
-pub fn records(rng: &mut Rng, world: &World, most: usize, only: Option<&[u8]>) -> Vec<Vec<u8>> {
-    let mut records: Vec<Vec<u8>> = Vec::new();
+pub fn slots(rng: &mut Rng, world: &World, most: usize, only: Option<&[u8]>) -> Vec<Vec<u8>> {
+    let mut slots: Vec<Vec<u8>> = Vec::new();
     for _ in 0..rng.below(most + 1) {
         let record = record(rng, world, only);
-        if records.iter().all(|other| other[13..32] != record[13..32]) {
-            records.push(record);
+        if slots.iter().all(|other| other[13..32] != record[13..32]) {
+            slots.push(slot(rng, record));
         }
     }
-    records
+    slots
 }
 
 fn record(rng: &mut Rng, world: &World, only: Option<&[u8]>) -> Vec<u8> {
@@ -87,8 +106,13 @@ fn record(rng: &mut Rng, world: &World, only: Option<&[u8]>) -> Vec<u8> {
     record
 }
 
-pub fn register(records: &[Vec<u8>], free: usize) -> Vec<u8> {
-    let mut register = records.concat();
-    register.resize(register.len() + 128 * free, 0);
+pub fn register(used: &[Vec<u8>], free: usize) -> Vec<u8> {
+    let mut register = used.concat();
+    register.resize(register.len() + SLOT * free, 0);
     register
+}
+
+/// The used slots of a register; a slot that a damage has cut is none.
+pub fn used(register: &[u8]) -> impl Iterator<Item = &[u8]> {
+    register.chunks_exact(SLOT).filter(|slot| slot[0] == b'1')
 }

@@ -1,7 +1,7 @@
 //! Full lists about as long as they have to be: 35 is given where twice the taken lines are fewer than the sender's records.
 
 use super::case::break_some_rule;
-use super::file::records;
+use super::file::{slot, slots, used};
 use super::line::{put, right_line};
 use super::rng::Rng;
 use super::world::World;
@@ -9,14 +9,15 @@ use super::world::World;
 /// So many of each row that a sender can have dozens of records.
 const ACCOUNTS: usize = 60;
 
-/// Records with different PANs, of the sender alone or with other providers' among them. Some have ended.
+/// Used slots with different PANs, of the sender alone or with other providers' among them. Some have ended.
 pub fn held(rng: &mut Rng, world: &World, sender: &[u8], reception: &[u8]) -> Vec<Vec<u8>> {
-    let mut all = if rng.one_in(3) { Vec::new() } else { records(rng, world, 8, None) };
+    let mut all = if rng.one_in(3) { Vec::new() } else { slots(rng, world, 8, None) };
     for _ in 0..rng.below(30) {
         let mut record = right_line(rng, world, sender, reception);
         put(&mut record, 14, &world.pan(rng, sender, ACCOUNTS));
         if all.iter().all(|other| other[13..32] != record[13..32]) {
-            all.insert(rng.below(all.len() + 1), record);
+            let slot = slot(rng, record);
+            all.insert(rng.below(all.len() + 1), slot);
         }
     }
     all
@@ -34,8 +35,7 @@ fn sent(rng: &mut Rng, held: usize) -> usize {
 
 /// The PANs of the sender's records.
 pub fn pans_of<'a>(register: &'a [u8], sender: &[u8]) -> Vec<&'a [u8]> {
-    let own = register.chunks_exact(128).filter(|slot| slot[0] == b'1' && &slot[1..7] == sender);
-    own.map(|slot| &slot[13..32]).collect()
+    used(register).filter(|slot| &slot[1..7] == sender).map(|slot| &slot[13..32]).collect()
 }
 
 /// A line more: a faulty one with an account of the list, the same account again, or a new one.

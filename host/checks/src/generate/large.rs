@@ -3,7 +3,7 @@
 use std::collections::HashSet;
 
 use super::case::{break_some_rule, Case};
-use super::file::{header, hgv, register};
+use super::file::{header, hgv, register, slot};
 use super::line::{put, put_wrong_weight, reception, right_line};
 use super::rng::Rng;
 use super::world::World;
@@ -35,7 +35,7 @@ fn lines(rng: &mut Rng, world: &World, sender: &[u8], reception: &[u8], n: usize
     lines
 }
 
-fn records(rng: &mut Rng, world: &World, reception: &[u8], n: usize) -> Vec<Vec<u8>> {
+fn slots(rng: &mut Rng, world: &World, reception: &[u8], n: usize) -> Vec<Vec<u8>> {
     let mut pans = HashSet::new();
     let drawn = (0..n).map(|_| {
         let actor = world.actor(rng);
@@ -43,9 +43,9 @@ fn records(rng: &mut Rng, world: &World, reception: &[u8], n: usize) -> Vec<Vec<
         if rng.one_in(12) {
             put_wrong_weight(rng, &mut record);
         }
-        record
+        slot(rng, record)
     });
-    drawn.filter(|record| pans.insert(record[13..32].to_vec())).collect()
+    drawn.filter(|slot| pans.insert(slot[13..32].to_vec())).collect()
 }
 
 /// Slots for all lines, for a quarter of them, or as many as there can be.
@@ -71,8 +71,8 @@ pub fn large(seed: u64) -> Case {
     let mut header = header(&mut rng, &sender);
     header.version = b"120001".to_vec();
     let hgv = hgv(&header, &lines(&mut rng, &world, &sender, &reception, n));
-    let records = records(&mut rng, &world, &reception, held);
-    let register = register(&records, free_slots(&mut rng, records.len(), n));
+    let used = slots(&mut rng, &world, &reception, held);
+    let register = register(&used, free_slots(&mut rng, used.len(), n));
     let mode = rng.between(1, 2) as u64;
     let rows = world.bytes();
     let mut buffer = vec![0; 174 + 130 * n];

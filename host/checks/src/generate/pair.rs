@@ -3,10 +3,12 @@
 
 use super::case::lines;
 use super::damage::*;
-use super::file::{footer, header, hgv, records, register};
+use super::disorder::damage_register;
+use super::file::{footer, header, hgv, register, slots};
 use super::line::{break_rule, plate, put, reception, right_line};
 use super::rng::Rng;
 use super::world::{padded, World};
+use crate::plain::register::SLOT;
 
 #[derive(Debug, Clone, PartialEq, Eq)]
 pub struct Pair {
@@ -165,7 +167,7 @@ fn damage_rest(rng: &mut Rng, world: &World, pair: &mut Pair) {
         4 => damage_receiver(rng, &mut pair.hgv),
         5 => damage_line(rng, &mut pair.hgv),
         6 => pair.verdicts_len = rng.below(n + 1),
-        7 => pair.copy.truncate(pair.copy.len() / 128 / 2 * 128),
+        7 => pair.copy.truncate(pair.copy.len() / SLOT / 2 * SLOT),
         8 => damage_version(rng, &mut pair.hgv),
         9 => damage_count(rng, &mut pair.hgv),
         10 => damage_footer(rng, &mut pair.hgv),
@@ -190,7 +192,7 @@ fn right_pair(rng: &mut Rng, world: &World) -> Pair {
     let hgc = hgc(&hgv, &reception, taken, &rejected);
     let only = if rng.one_in(12) { None } else { Some(&sender[..]) };
     let free = rng.below(9);
-    let copy = register(&records(rng, world, 6, only), free);
+    let copy = register(&slots(rng, world, 6, only), free);
     let verdicts_len = lines.len() + rng.below(3);
     Pair { mode, copy, hgv, hgc, verdicts_len }
 }

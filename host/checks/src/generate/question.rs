@@ -1,7 +1,8 @@
 //! A register and the keys of both lookups.
 
-use super::damage::{change_length, change_one_byte, damage_register, wrong_time};
-use super::file::{records, register};
+use super::damage::{change_length, change_one_byte, wrong_time};
+use super::disorder::damage_register;
+use super::file::{register, slots};
 use super::line::{plate, put, reception, time_around};
 use super::rng::Rng;
 use super::world::{padded, World};
@@ -58,11 +59,11 @@ fn damage(rng: &mut Rng, world: &World, question: &mut Question) {
 }
 
 /// Records that share plate and nationality, so that more than one can be active.
-fn share_plates(rng: &mut Rng, records: &mut [Vec<u8>]) {
-    for record in records {
+fn share_plates(rng: &mut Rng, slots: &mut [Vec<u8>]) {
+    for slot in slots {
         if rng.one_in(2) {
-            put(record, 33, b"ABC123    NO ");
-            put(record, 115, b"30");
+            put(slot, 33, b"ABC123    NO ");
+            put(slot, 115, b"30");
         }
     }
 }
@@ -70,16 +71,16 @@ fn share_plates(rng: &mut Rng, records: &mut [Vec<u8>]) {
 pub fn question(seed: u64) -> Question {
     let mut rng = Rng::new(seed);
     let world = World::new(&mut rng);
-    let mut records = records(&mut rng, &world, 8, None);
-    share_plates(&mut rng, &mut records);
-    let mut question = match records.is_empty() || rng.one_in(4) {
+    let mut used = slots(&mut rng, &world, 8, None);
+    share_plates(&mut rng, &mut used);
+    let mut question = match used.is_empty() || rng.one_in(4) {
         true => question_at_random(&mut rng, &world),
         false => {
-            let asked = rng.below(records.len());
-            question_about(&mut rng, &records[asked])
+            let asked = rng.below(used.len());
+            question_about(&mut rng, &used[asked])
         }
     };
-    question.register = register(&records, rng.below(4));
+    question.register = register(&used, rng.below(4));
     if rng.one_in(3) {
         damage(&mut rng, &world, &mut question);
     }

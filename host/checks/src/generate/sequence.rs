@@ -1,8 +1,8 @@
 //! Imports one after the other, by several providers, into one register.
 
-use super::case::lines;
+use super::case::{lines, repeat_held};
 use super::damage::{change_one_byte, wrong_mode, wrong_time};
-use super::file::{header, hgv, records, register};
+use super::file::{header, hgv, register, slots};
 use super::full::{full_list, pans_of};
 use super::line::reception;
 use super::rng::Rng;
@@ -27,10 +27,13 @@ fn event(rng: &mut Rng, world: &World, register: &[u8]) -> Event {
     if mode == 2 && !rng.one_in(10) {
         header.version = b"120001".to_vec();
     }
-    let lines = match mode == 2 && pans_of(register, &sender).len() > 1 && !rng.one_in(3) {
+    let mut lines = match mode == 2 && pans_of(register, &sender).len() > 1 && !rng.one_in(3) {
         true => full_list(rng, world, &sender, &reception, register),
         false => lines(rng, world, &sender, &reception, 7),
     };
+    if mode == 1 {
+        repeat_held(rng, &mut lines, register, &sender);
+    }
     let hgc_len = 174 + 130 * lines.len();
     Event { mode, reception, rows: world.bytes(), hgv: hgv(&header, &lines), hgc_len }
 }
@@ -51,10 +54,10 @@ fn spoil(rng: &mut Rng, event: &mut Event) {
 pub fn start(seed: u64) -> Vec<u8> {
     let world = World::new(&mut Rng::new(seed));
     let mut rng = Rng::new(seed ^ 0xABCD);
-    let slots = [0, 1, 4, 8, 16, 40][rng.below(6)];
-    let most = if rng.one_in(2) { slots / 2 } else { 0 };
-    let records = records(&mut rng, &world, most, None);
-    register(&records, slots - records.len())
+    let all = [0, 1, 4, 8, 16, 40][rng.below(6)];
+    let most = if rng.one_in(2) { all / 2 } else { 0 };
+    let used = slots(&mut rng, &world, most, None);
+    register(&used, all - used.len())
 }
 
 /// The rows change on the way: an issuer may lose one or gain one.

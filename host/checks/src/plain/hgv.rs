@@ -42,7 +42,7 @@ pub fn is_25(hgv: &[u8]) -> bool {
 }
 
 /// `HGV`, sender, real date, 01-99.
-fn sequence_right(sequence: &[u8], sender: &[u8]) -> bool {
+pub fn sequence_right(sequence: &[u8], sender: &[u8]) -> bool {
     positions(sequence, 1, 3) == b"HGV"
         && positions(sequence, 4, 9) == sender
         && is_real_date(positions(sequence, 10, 17))

@@ -1,6 +1,6 @@
 //! The import: its stops, and what it writes.
 
-use super::register::{self, after, in_order, InOrder};
+use super::register::{self, after, in_order, InOrder, Stamp};
 use super::words::is_real_time;
 use super::{confirmation, hgv, line, rows, verdict};
 use graftspindle::raw::Imported;
@@ -63,7 +63,8 @@ pub fn import(mode: u64, reception: &[u8], register: &mut [u8], rows: &[u8], hgv
     let rules = verdict::rules(&lines, sender, rows, &register::used_slots(register));
     let verdicts = verdict::verdicts(&lines, &rules);
     let taken = verdict::taken_lines(&lines, &verdicts);
-    let after = after(mode, register, sender, &taken, reception, register::after_mode_1);
+    let stamp = Stamp { list: hgv::list_sequence(hgv), reception };
+    let after = after(mode, register, sender, &taken, &stamp, register::after_mode_1);
     finish_import(mode, reception, register, hgv, hgc, &verdicts, &after)
 }
 

@@ -1,7 +1,7 @@
 //! The provider's side: reading an HGC back, and the update of his copy.
 
 use super::pairing::{self, Clause};
-use super::register::{self, after, in_order, InOrder};
+use super::register::{self, after, in_order, InOrder, Stamp};
 use super::{confirmation, hgv, line};
 use graftspindle::raw::Counted;
 
@@ -74,6 +74,11 @@ fn is_51(copy: &[u8], hgv: &[u8]) -> bool {
     register::used_slots(copy).iter().any(|slot| line::actor(slot) != hgv::sender(hgv))
 }
 
+/// "It uses the HGC's reception", and the HGC's list.
+pub fn stamp_told(hgc: &[u8]) -> Stamp<'_> {
+    Stamp { list: confirmation::list_sequence(hgc), reception: confirmation::reception(hgc) }
+}
+
 pub fn update(mode: u64, copy: &mut [u8], hgv: &[u8], hgc: &[u8]) -> Counted {
     let stop = update_stop_to_32(mode, copy, hgv, in_order);
     if stop != 0 {
@@ -85,8 +90,8 @@ pub fn update(mode: u64, copy: &mut [u8], hgv: &[u8], hgc: &[u8]) -> Counted {
     let lines = hgv::lines(hgv);
     let marks = pairing::taken_marks(&lines, &confirmation::lines(hgc));
     let taken = pairing::marked(&lines, &marks, true);
-    let reception = confirmation::reception(hgc);
-    let after = after(mode, copy, hgv::sender(hgv), &taken, reception, register::after_mode_1);
+    let stamp = stamp_told(hgc);
+    let after = after(mode, copy, hgv::sender(hgv), &taken, &stamp, register::after_mode_1);
     finish_update(copy, &marks, &after)
 }
 

@@ -1,9 +1,9 @@
-//! The register: slots of 128 bytes, used ones first.
+//! The register: slots of 168 bytes, used ones first. A used slot has a record, as long as a line, and a stamp.
 
-use super::line;
 use super::words::*;
+use super::{hgv, line};
 
-pub const SLOT: usize = 128;
+pub const SLOT: usize = 168;
 const MOST_SLOTS: usize = 8192;
 
 pub fn length_right(register: &[u8]) -> bool {
@@ -19,9 +19,16 @@ pub fn holds_as_record(slot: &[u8]) -> bool {
     all_digits(line::actor(slot)) && line::record_rules_hold(slot)
 }
 
+/// "The stamp to be a list sequence of the record's actor and a real time"; behind them stand seven zeros.
+fn stamp_right(slot: &[u8]) -> bool {
+    hgv::sequence_right(positions(slot, 129, 147), line::actor(slot))
+        && is_real_time(positions(slot, 148, 161))
+        && all_zeros(positions(slot, 162, 168))
+}
+
 /// What a used slot must be, the other slots left aside.
-fn record_right(slot: &[u8]) -> bool {
-    has_used_form(slot) && holds_as_record(slot)
+fn slot_right(slot: &[u8]) -> bool {
+    has_used_form(slot) && holds_as_record(slot) && stamp_right(slot)
 }
 
 /// In a register in order these are the used ones: they stand in front.
@@ -35,7 +42,7 @@ pub fn in_order_but_pans(register: &[u8]) -> bool {
         return false;
     }
     let used = used_slots(register);
-    used.iter().all(|slot| record_right(slot)) && all_zero_bytes(&register[used.len() * SLOT..])
+    used.iter().all(|slot| slot_right(slot)) && all_zero_bytes(&register[used.len() * SLOT..])
 }
 
 pub fn in_order(register: &[u8]) -> bool {
@@ -66,31 +73,38 @@ pub fn is_active(slot: &[u8], time: &[u8]) -> bool {
     all_zeros(end) || end > time
 }
 
-/// The slot a taken line becomes.
-pub fn record_of(line: &[u8], reception: &[u8]) -> Vec<u8> {
-    let mut slot = line.to_vec();
-    slot[100..114].copy_from_slice(end_of(line::valid_to(line), reception));
-    slot
+/// What a file leaves in each slot that a taken line of it fills. Ends go by the same reception; the one that an HGC shows is
+/// not read here.
+pub struct Stamp<'a> {
+    pub list: &'a [u8],
+    pub reception: &'a [u8],
+}
+
+/// The slot a taken line becomes: its record, and the file's stamp.
+pub fn slot_of(line: &[u8], stamp: &Stamp) -> Vec<u8> {
+    let mut record = line.to_vec();
+    record[100..114].copy_from_slice(end_of(line::valid_to(line), stamp.reception));
+    [&record, stamp.list, stamp.reception, b"0000000"].concat()
 }
 
 /// Mode 1: a PAN held is replaced in its slot, a new one takes the next free slot.
-pub fn after_mode_1(register: &[u8], taken: &[&[u8]], reception: &[u8]) -> Vec<Vec<u8>> {
+pub fn after_mode_1(register: &[u8], taken: &[&[u8]], stamp: &Stamp) -> Vec<Vec<u8>> {
     let mut after: Vec<Vec<u8>> = used_slots(register).iter().map(|s| s.to_vec()).collect();
     for line in taken {
-        let record = record_of(line, reception);
-        match after.iter().position(|slot| line::pan(slot) == line::pan(line)) {
-            Some(place) => after[place] = record,
-            None => after.push(record),
+        let slot = slot_of(line, stamp);
+        match after.iter().position(|held| line::pan(held) == line::pan(line)) {
+            Some(place) => after[place] = slot,
+            None => after.push(slot),
         }
     }
     after
 }
 
-/// Mode 2: the sender's records go, the others close up, taken lines follow.
-fn after_mode_2(register: &[u8], sender: &[u8], taken: &[&[u8]], reception: &[u8]) -> Vec<Vec<u8>> {
+/// Mode 2: the sender's records go, the others close up with their stamps, taken lines follow.
+fn after_mode_2(register: &[u8], sender: &[u8], taken: &[&[u8]], stamp: &Stamp) -> Vec<Vec<u8>> {
     let others = used_slots(register).into_iter().filter(|slot| line::actor(slot) != sender);
     let mut after: Vec<Vec<u8>> = others.map(|slot| slot.to_vec()).collect();
-    after.extend(taken.iter().map(|line| record_of(line, reception)));
+    after.extend(taken.iter().map(|line| slot_of(line, stamp)));
     after
 }
 
@@ -109,7 +123,7 @@ pub fn write(register: &mut [u8], after: &[Vec<u8>]) {
 pub type InOrder = fn(&[u8]) -> bool;
 
 /// Mode 1, another search that differs.
-pub type AfterMode1 = fn(&[u8], &[&[u8]], &[u8]) -> Vec<Vec<u8>>;
+pub type AfterMode1 = fn(&[u8], &[&[u8]], &Stamp) -> Vec<Vec<u8>>;
 
 /// What the used slots are after taken lines of a sender.
 pub fn after(
@@ -117,12 +131,12 @@ pub fn after(
     register: &[u8],
     sender: &[u8],
     taken: &[&[u8]],
-    reception: &[u8],
+    stamp: &Stamp,
     after_mode_1: AfterMode1,
 ) -> Vec<Vec<u8>> {
     if mode == 1 {
-        after_mode_1(register, taken, reception)
+        after_mode_1(register, taken, stamp)
     } else {
-        after_mode_2(register, sender, taken, reception)
+        after_mode_2(register, sender, taken, stamp)
     }
 }

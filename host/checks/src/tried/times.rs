@@ -13,7 +13,7 @@ fn days(year: &str, month: usize) -> u32 {
 }
 
 /// Every day and month of a year, and whether there is such a date. There is no year 0000.
-fn dates_of(year: &str) -> Vec<(String, bool)> {
+pub(super) fn dates_of(year: &str) -> Vec<(String, bool)> {
     let all = (0..=13).flat_map(|month| (0..=32).map(move |day| (month, day)));
     let real = |month, day| year != "0000" && (1..=12).contains(&month) && (1..=days(year, month)).contains(&day);
     all.map(|(month, day)| (format!("{year}{month:02}{day:02}"), real(month, day))).collect()
@@ -30,7 +30,7 @@ pub fn real_dates() -> usize {
     digits(4).flat_map(|year| dates_of(&year)).filter(|(_, right)| *right).count()
 }
 
-fn is_time_of_day(time: &str) -> bool {
+pub(super) fn is_time_of_day(time: &str) -> bool {
     let part = |at: usize| time[at..at + 2].parse::<u32>().expect("two digits");
     part(0) < HOURS && part(2) < MINUTES && part(4) < SECONDS
 }

@@ -3,6 +3,7 @@
 use crate::common::*;
 use graftspindle::raw::{Counted, Imported};
 use graftspindle_checks::generate::{case, pair, question, sequence, start, Case, Event};
+use graftspindle_checks::plain::register::SLOT;
 use graftspindle_checks::plain::{clauses_of_52, rules_broken, CLAUSES};
 use std::collections::BTreeMap;
 
@@ -23,7 +24,7 @@ fn imports() {
         if outcome.answer.number != 0 {
             continue;
         }
-        count(&mut heavy, case.register.chunks(128).any(over_limit));
+        count(&mut heavy, case.register.chunks(SLOT).any(over_limit));
         assert!(of_all(|engine| (engine.in_order)(&outcome.register)), "seed {seed}");
         let told = of_all(|engine| verdicts(engine, &case.hgv, &outcome));
         told.into_iter().for_each(|reason| count(&mut reasons, reason));
@@ -90,11 +91,11 @@ fn updates() {
             count(&mut alone, *clause);
         }
         if (p.mode, answer.number) == (2, 0) {
-            let held = p.copy.chunks(128).filter(|slot| slot[0] == b'1').count() as u64;
+            let held = p.copy.chunks(SLOT).filter(|slot| slot[0] == b'1').count() as u64;
             count(&mut thin, 2 * answer.taken < held);
         }
-        let stood = |slot: &[u8]| p.copy.chunks(128).any(|before| before == slot);
-        count(&mut heavy, after.chunks_exact(128).any(|slot| over_limit(slot) && !stood(slot)));
+        let stood = |slot: &[u8]| p.copy.chunks(SLOT).any(|before| before == slot);
+        count(&mut heavy, after.chunks_exact(SLOT).any(|slot| over_limit(slot) && !stood(slot)));
     }
     assert_reached("updates by a line over a limit of weight", &heavy, vec![false, true]);
     assert_reached("full lists applied, too thin for an import", &thin, vec![false, true]);
@@ -158,7 +159,7 @@ fn sequences() {
         let (outcomes, copies) = of_all(|engine| follow(engine, seed));
         between += thin_between(&sequence(seed), &outcomes);
         outcomes.iter().for_each(|outcome| count(&mut numbers, outcome.answer.number));
-        copies.values().for_each(|copy| count(&mut heavy, copy.chunks(128).any(over_limit)));
+        copies.values().for_each(|copy| count(&mut heavy, copy.chunks(SLOT).any(over_limit)));
     }
     println!("sequences' numbers: {numbers:?}, {between} of 35 between accepted lists of the sender");
     assert_reached("copies with a record over a limit of weight", &heavy, vec![false, true]);

@@ -1,11 +1,12 @@
 //! Every declaration of `raw` called once with an answer and once with a refusal, and compared with the plain one.
 
 use graftspindle::raw;
+use graftspindle::sizes::SLOT;
 use graftspindle_checks::{plain, sample};
 
 /// A register of four slots after an import of three lines, by both.
 fn imported() -> Vec<u8> {
-    let (mut register, mut hgc) = (vec![0; 4 * 128], vec![7; 300]);
+    let (mut register, mut hgc) = (vec![0; 4 * SLOT], vec![7; 300]);
     let (mut other, mut told) = (register.clone(), hgc.clone());
     let (rows, hgv) = (sample::row(), sample::hgv(3));
     let done = raw::import(1, sample::RECEPTION, &mut register, &rows, &hgv, &mut hgc);
@@ -18,17 +19,17 @@ fn imported() -> Vec<u8> {
 
 /// The HGC of the same import.
 fn confirmed() -> Vec<u8> {
-    let (mut register, mut hgc) = (vec![0; 4 * 128], vec![7; 174]);
+    let (mut register, mut hgc) = (vec![0; 4 * SLOT], vec![7; 174]);
     raw::import(1, sample::RECEPTION, &mut register, &sample::row(), &sample::hgv(3), &mut hgc);
     hgc
 }
 
 #[test]
 fn a_stop_writes_nothing() {
-    let (mut register, mut hgc) = (vec![0; 128], vec![7; 173]);
+    let (mut register, mut hgc) = (vec![0; SLOT], vec![7; 173]);
     let done = raw::import(3, sample::RECEPTION, &mut register, &sample::row(), &sample::hgv(3), &mut hgc);
     assert_eq!((done.number, done.taken, done.rejected, done.length), (21, 0, 0, 0));
-    assert!(register == vec![0; 128] && hgc == vec![7; 173]);
+    assert!(register == vec![0; SLOT] && hgc == vec![7; 173]);
 }
 
 #[test]
@@ -38,7 +39,7 @@ fn by_pan() {
         let pan = format!("{:<19}", sample::pan(i));
         let found = raw::by_pan(&register, pan.as_bytes());
         assert_eq!(found, plain::by_pan(&register, pan.as_bytes()));
-        assert_eq!(found, if i < 3 { (0, i * 128..i * 128 + 128) } else { (41, 0..0) });
+        assert_eq!(found, if i < 3 { (0, i * SLOT..i * SLOT + SLOT) } else { (41, 0..0) });
     }
 }
 
@@ -49,7 +50,7 @@ fn by_plate() {
         let plate = sample::plate(i);
         let found = raw::by_plate(&register, plate.as_bytes(), b"DE ", sample::RECEPTION);
         assert_eq!(found, plain::by_plate(&register, plate.as_bytes(), b"DE ", sample::RECEPTION));
-        assert_eq!(found, if i < 3 { (0, i * 128..i * 128 + 128) } else { (41, 0..0) });
+        assert_eq!(found, if i < 3 { (0, i * SLOT..i * SLOT + SLOT) } else { (41, 0..0) });
     }
 }
 
@@ -68,10 +69,10 @@ fn read_back() {
 
 #[test]
 fn update() {
-    let (hgv, hgc, mut copy) = (sample::hgv(3), confirmed(), vec![0; 4 * 128]);
+    let (hgv, hgc, mut copy) = (sample::hgv(3), confirmed(), vec![0; 4 * SLOT]);
     let refused = raw::update(3, &mut copy, &hgv, &hgc);
     assert_eq!((refused.number, refused.taken, refused.rejected), (21, 0, 0));
-    assert!(copy == vec![0; 4 * 128]);
+    assert!(copy == vec![0; 4 * SLOT]);
     let done = raw::update(2, &mut copy, &hgv, &hgc);
     assert_eq!((done.number, done.taken, done.rejected), (0, 3, 0));
     assert!(copy == imported());
@@ -98,7 +99,7 @@ fn small_stack() {
     let calls = || {
         let (hgv, rows) = (sample::hgv(8192), sample::row());
         let (mut register, mut copy, mut hgc, mut verdicts) =
-            (vec![0; 8192 * 128], vec![0; 8192 * 128], vec![0; 174], vec![1; 8192]);
+            (vec![0; 8192 * SLOT], vec![0; 8192 * SLOT], vec![0; 174], vec![1; 8192]);
         let taken = raw::import(2, sample::RECEPTION, &mut register, &rows, &hgv, &mut hgc).taken;
         let again = raw::import(1, sample::RECEPTION, &mut register, &rows, &hgv, &mut hgc).taken;
         let read = raw::read_back(&hgv, &hgc, &mut verdicts).taken;

@@ -3,7 +3,9 @@
 use graftspindle::raw::{Counted, Imported, List, Written};
 pub use graftspindle_checks::engines::{Engine, ENGINES};
 use graftspindle_checks::plain::line::{breaks_l10, record_rules_hold};
+use graftspindle_checks::plain::register::SLOT;
 use graftspindle_checks::sample;
+pub use graftspindle_checks::sample::{slot, slots};
 use std::collections::BTreeMap;
 use std::fmt::Debug;
 
@@ -47,12 +49,12 @@ pub fn over_limit(line: &[u8]) -> bool {
 }
 
 pub fn free(k: usize) -> Vec<u8> {
-    vec![0; 128 * k]
+    vec![0; SLOT * k]
 }
 
 /// The used slots of an actor, in order, then free ones: what his copy must be.
 pub fn copy_expected(register: &[u8], actor: &[u8]) -> Vec<u8> {
-    let own = register.chunks(128).filter(|slot| slot[0] == b'1' && &slot[1..7] == actor);
+    let own = register.chunks(SLOT).filter(|slot| slot[0] == b'1' && &slot[1..7] == actor);
     let mut expected: Vec<u8> = own.flatten().copied().collect();
     expected.resize(register.len(), 0);
     expected

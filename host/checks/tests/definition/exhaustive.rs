@@ -5,6 +5,7 @@ use crate::common::*;
 use graftspindle_checks::generate::line::{right_separators, weights, wrong_separators};
 use graftspindle_checks::generate::line::{PLATE_CHARACTERS, WRONG_FIELDS};
 use graftspindle_checks::plain::line::{breaks_l10, separator_right};
+use graftspindle_checks::plain::register::SLOT;
 use graftspindle_checks::tried::{pans, times, trials};
 use graftspindle_checks::{lists, sample};
 
@@ -81,7 +82,7 @@ fn lists_of_the_generator() {
 
 /// Two records, a line that replaces one, a faulty line.
 fn blocks() -> (Vec<u8>, Vec<u8>, Vec<u8>) {
-    let register = [x(), with(&y(), 2, b"900124"), free(1)].concat();
+    let register = [slots([x(), with(&y(), 2, b"900124")]), free(1)].concat();
     let file = hgv(&[x_other(), bad()]);
     (register, file, hgc(1, &[(&bad(), "12")]))
 }
@@ -113,7 +114,7 @@ fn every_length_of_every_block() {
             block
         };
         let odd = agree(&cut(&register), ROW0, &file, &told);
-        assert!(odd[0] == 23 || length == 384 || length % 128 == 0);
+        assert!(odd[0] == 23 || length % SLOT == 0);
         assert_eq!(odd[1] == 23, odd[0] == 23);
         agree(&register, &cut(ROW0), &file, &told);
         let odd = agree(&register, ROW0, &cut(&file), &told);

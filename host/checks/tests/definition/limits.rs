@@ -87,9 +87,9 @@ fn past_valid_to_ends_at_each_sending_anew() {
     let line = with(LINE0, 101, b"20250101000000");
     for engine in ENGINES {
         let first = run_lines(engine, &free(1), slice::from_ref(&line));
-        assert_eq!(first.register, with(LINE0, 101, R0));
+        assert_eq!(first.register, slot(with(LINE0, 101, R0)));
         let second = run(engine, 1, b"20250401000000", &first.register, ROW0, &hgv(slice::from_ref(&line)), 174);
-        assert_eq!(second.register, with(LINE0, 101, b"20250401000000"));
+        assert_eq!(second.register, with(&slot(with(LINE0, 101, b"20250401000000")), 148, b"20250401000000"));
     }
 }
 
@@ -115,14 +115,14 @@ fn identical_lines_and_a_faulty_one_first() {
 
 #[test]
 fn full_register_with_every_taken_line_held() {
-    let full = [x(), y()].concat();
+    let full = slots([x(), y()]);
     for engine in ENGINES {
         let outcome = run_lines(engine, &full, &[y(), x_other()]);
         assert_eq!(outcome.answer.number, 0);
-        assert_eq!(outcome.register, [x_other(), y()].concat());
+        assert_eq!(outcome.register, slots([x_other(), y()]));
         let again = run(engine, 2, R0, &full, ROW0, &hgv(&[y(), x()]), 174);
         assert_eq!(again.answer.number, 0);
-        assert_eq!(again.register, [y(), x()].concat());
+        assert_eq!(again.register, slots([y(), x()]));
         let new = with(LINE0, 14, b"9799001200000028");
         assert_eq!(run_lines(engine, &full, &[new]).answer.number, 33);
     }
@@ -145,7 +145,7 @@ fn hgc_repeats_the_line_as_sent() {
     for engine in ENGINES {
         let outcome = run_lines(engine, &free(1), &[past.clone(), past.clone()]);
         assert_eq!(outcome.hgc, hgc(1, &[(&past, "01")]));
-        assert_eq!(outcome.register, with(LINE0, 101, R0));
+        assert_eq!(outcome.register, slot(with(LINE0, 101, R0)));
     }
 }
 

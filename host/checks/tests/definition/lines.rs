@@ -96,7 +96,7 @@ fn camper_of_3510_kg() {
     for engine in ENGINES {
         let outcome = run_lines(engine, &free(2), &[camper(b"12", b"0350"), y()]);
         assert_eq!(outcome.hgc, hgc(1, &[(&camper(b"12", b"0350"), "12")]));
-        assert_eq!(outcome.register, [y(), free(1)].concat());
+        assert_eq!(outcome.register, [slot(y()), free(1)].concat());
     }
 }
 
@@ -149,11 +149,11 @@ fn l11_in_both_modes() {
     let foreign = with(LINE0, 2, b"900124");
     for engine in ENGINES {
         for mode in [1, 2] {
-            let before = [foreign.clone(), free(1)].concat();
+            let before = [slot(&foreign), free(1)].concat();
             let file = hgv(&[x(), y()]);
             let outcome = run(engine, mode, R0, &before, ROW0, &file, 400);
             assert_eq!(outcome.hgc, hgc(1, &[(&x(), "04")]));
-            assert_eq!(outcome.register, [foreign.clone(), y()].concat());
+            assert_eq!(outcome.register, slots([foreign.clone(), y()]));
         }
     }
 }

@@ -1,13 +1,14 @@
 //! The lookups by PAN and by plate.
 
 use crate::common::*;
+use graftspindle_checks::plain::register::SLOT;
 
 const PLATE: &[u8] = b"ABC123    ";
 const NO: &[u8] = b"NO ";
 
 #[test]
 fn by_pan() {
-    let register = [x(), with(&y(), 101, b"20200101000000"), free(1)].concat();
+    let register = [slots([x(), with(&y(), 101, b"20200101000000")]), free(1)].concat();
     let cases: [(&[u8], u64); 8] = [
         (b"9799001200000002   ", 0),
         (PAN2, 0),
@@ -33,15 +34,15 @@ fn by_pan() {
 
 #[test]
 fn by_plate() {
-    let ended = with(LINE0, 101, b"20250310050000");
-    let register = [ended.clone(), y(), free(1)].concat();
-    let both = [x(), y()].concat();
+    let ended = slot(with(LINE0, 101, b"20250310050000"));
+    let register = [ended.clone(), slot(y()), free(1)].concat();
+    let both = slots([x(), y()]);
     for engine in ENGINES {
         let ask = |register: &[u8], time: &[u8]| (engine.by_plate)(register, PLATE, NO, time);
-        assert_eq!(ask(&register, R0), (0, 128..256));
+        assert_eq!(ask(&register, R0), (0, SLOT..2 * SLOT));
         assert_eq!(ask(&register, b"20250310045959"), (42, 0..0));
         assert_eq!(ask(&ended, R0), (41, 0..0));
-        assert_eq!(ask(&ended, b"20250310045959"), (0, 0..128));
+        assert_eq!(ask(&ended, b"20250310045959"), (0, 0..SLOT));
         assert_eq!(ask(&both, R0), (42, 0..0));
         assert_eq!((engine.by_plate)(&both, b"abc123    ", NO, R0).0, 41);
         assert_eq!((engine.by_plate)(&both, PLATE, b"SE ", R0).0, 41);
@@ -69,7 +70,7 @@ fn by_plate_refusals_in_order() {
             (PLATE, b"NO  "),
             (b"", b""),
         ] {
-            assert_eq!(ask(&x(), plate, nationality, R0), 40);
+            assert_eq!(ask(&slot(x()), plate, nationality, R0), 40);
         }
     }
 }

@@ -27,7 +27,7 @@ fn right(room: usize) -> Input {
 
 /// Of three records one line is too thin.
 fn three_held() -> Vec<u8> {
-    [x(), y(), with(LINE0, 14, b"9799001200000028")].concat()
+    slots([x(), y(), with(LINE0, 14, b"9799001200000028")])
 }
 
 fn apply(number: u64, input: &mut Input) {
@@ -47,7 +47,7 @@ fn apply(number: u64, input: &mut Input) {
         33 => input.register.clear(),
         34 | 53 => input.room -= 1,
         35 => (input.mode, input.register) = (2, three_held()),
-        51 => input.register = with(&y(), 2, b"900124"),
+        51 => input.register = slot(with(&y(), 2, b"900124")),
         52 => input.hgc.push(b'0'),
         _ => unreachable!(),
     }

@@ -114,7 +114,7 @@ fn weight_of_a_taken_line() {
             for engine in ENGINES {
                 assert_eq!(read(engine, &hgv(&lines), &hgc(1, &[]), 1), (0, 1, 0, vec![0]));
             }
-            assert_update(1, free(1), &lines, &hgc(1, &[]), 0, &lines[0]);
+            assert_update(1, free(1), &lines, &hgc(1, &[]), 0, &slot(&lines[0]));
         }
         for weight in [b"    ", b" 350", b"350 ", b"035O", b"0.35"] {
             assert_52(&[with(&line, 97, weight)], &hgc(1, &[]), Clause::TakenRule);
@@ -128,18 +128,19 @@ fn weight_of_a_taken_line() {
 fn old_pair() {
     let old = with(LINE0, 97, b"0350");
     let lines = [old.clone(), y()];
-    assert_update(1, free(2), &lines, &hgc(2, &[]), 0, &lines.concat());
-    assert_update(2, [y(), old.clone()].concat(), &lines, &hgc(2, &[]), 0, &lines.concat());
-    assert_update(1, [old.clone(), free(1)].concat(), &[y()], &hgc(1, &[]), 0, &lines.concat());
-    assert_update(1, with(&old, 97, b"9999"), &[x()], &hgc(1, &[]), 0, &x());
-    assert_update(1, with(&old, 97, b"035O"), &[x()], &hgc(1, &[]), 23, &with(&old, 97, b"035O"));
+    let (then, wrong) = (slots(&lines), slot(with(&old, 97, b"035O")));
+    assert_update(1, free(2), &lines, &hgc(2, &[]), 0, &then);
+    assert_update(2, slots([y(), old.clone()]), &lines, &hgc(2, &[]), 0, &then);
+    assert_update(1, [slot(&old), free(1)].concat(), &[y()], &hgc(1, &[]), 0, &then);
+    assert_update(1, slot(with(&old, 97, b"9999")), &[x()], &hgc(1, &[]), 0, &slot(x()));
+    assert_update(1, wrong.clone(), &[x()], &hgc(1, &[]), 23, &wrong);
     for engine in ENGINES {
         assert_eq!(read(engine, &hgv(&lines), &hgc(2, &[]), 2), (0, 2, 0, vec![0, 0]));
         let now = run_lines(engine, &free(2), &lines);
         assert_eq!((&now.hgc, verdicts(engine, &hgv(&lines), &now)), (&hgc(1, &[(&old, "12")]), vec![12, 0]));
-        let mut copy = [old.clone(), free(1)].concat();
+        let mut copy = [slot(&old), free(1)].concat();
         assert_eq!((engine.update)(1, &mut copy, &hgv(&lines), &now.hgc).number, 0);
-        assert_eq!(copy, lines.concat());
+        assert_eq!(copy, then);
     }
 }
 
@@ -163,15 +164,15 @@ fn assert_update(mode: u64, copy: Vec<u8>, lines: &[Vec<u8>], told: &[u8], numbe
 
 #[test]
 fn update() {
-    let foreign = with(LINE0, 2, b"900124");
+    let foreign = slot(with(LINE0, 2, b"900124"));
     let past = with(LINE0, 101, b"20240101000000");
-    assert_update(1, free(1), &[x()], &hgc(1, &[]), 0, &x());
-    assert_update(1, free(1), &[past], &hgc(1, &[]), 0, &with(LINE0, 101, R0));
-    assert_update(1, x(), &[x_other()], &hgc(1, &[]), 0, &x_other());
-    assert_update(1, x(), &[y()], &hgc(1, &[]), 33, &x());
-    assert_update(2, x(), &[y()], &hgc(1, &[]), 0, &y());
-    assert_update(2, x(), &[x()], &hgc(0, &[(&x(), "04")]), 0, &free(1));
-    assert_update(2, [x(), y()].concat(), &[], &hgc(0, &[]), 0, &free(2));
+    assert_update(1, free(1), &[x()], &hgc(1, &[]), 0, &slot(x()));
+    assert_update(1, free(1), &[past], &hgc(1, &[]), 0, &slot(with(LINE0, 101, R0)));
+    assert_update(1, slot(x()), &[x_other()], &hgc(1, &[]), 0, &slot(x_other()));
+    assert_update(1, slot(x()), &[y()], &hgc(1, &[]), 33, &slot(x()));
+    assert_update(2, slot(x()), &[y()], &hgc(1, &[]), 0, &slot(y()));
+    assert_update(2, slot(x()), &[x()], &hgc(0, &[(&x(), "04")]), 0, &free(1));
+    assert_update(2, slots([x(), y()]), &[], &hgc(0, &[]), 0, &free(2));
     assert_update(1, foreign.clone(), &[y()], &hgc(1, &[]), 51, &foreign);
-    assert_update(0, x(), &[y()], &hgc(1, &[]), 21, &x());
+    assert_update(0, slot(x()), &[y()], &hgc(1, &[]), 21, &slot(x()));
 }

@@ -2,28 +2,29 @@
 
 use crate::common::*;
 use graftspindle_checks::lists;
+use graftspindle_checks::plain::register::SLOT;
 
 #[test]
 fn in_order() {
-    let other_form = [&b"1"[..], &LINE0[1..127], b"\r"].concat();
-    let nearly_free = [vec![0; 127], vec![1]].concat();
+    let other_form = slot([&b"1"[..], &LINE0[1..127], b"\r"].concat());
+    let nearly_free = [vec![0; SLOT - 1], vec![1]].concat();
     let cases: Vec<(Vec<u8>, bool)> = vec![
         (vec![], true),
         (free(3), true),
         (free(8192), true),
         (free(8193), false),
-        (vec![0; 127], false),
-        (vec![b'0'; 128], false),
+        (vec![0; SLOT - 1], false),
+        (vec![b'0'; SLOT], false),
         (other_form, false),
         (nearly_free, false),
-        ([free(1), x()].concat(), false),
-        ([x(), y(), free(2)].concat(), true),
-        ([x(), with(&x(), 2, b"900124")].concat(), false),
-        (with(LINE0, 2, b"90012A"), false),
-        (with(LINE0, 97, b"9999"), true),
-        (with(LINE0, 97, b"035O"), false),
-        (with(LINE0, 2, b"999999"), true),
-        ([with(LINE0, 14, b"00000018           "), with(LINE0, 14, b"000000018          ")].concat(), true),
+        ([free(1), slot(x())].concat(), false),
+        ([slots([x(), y()]), free(2)].concat(), true),
+        (slots([x(), with(&x(), 2, b"900124")]), false),
+        (slot(with(LINE0, 2, b"90012A")), false),
+        (slot(with(LINE0, 97, b"9999")), true),
+        (slot(with(LINE0, 97, b"035O")), false),
+        (slot(with(LINE0, 2, b"999999")), true),
+        (slots([with(LINE0, 14, b"00000018           "), with(LINE0, 14, b"000000018          ")]), true),
     ];
     for engine in ENGINES {
         for (register, expected) in &cases {
@@ -42,9 +43,9 @@ fn records_of_any_weight() {
             let record = with(&with(LINE0, 46, tariff.as_bytes()), 97, weight.as_bytes());
             let right = weight == lists::NO_WEIGHT || (from..=to).contains(&weight);
             for engine in ENGINES {
-                assert!((engine.in_order)(&record), "{}: {}", engine.name, record.escape_ascii());
-                let outcome = run_lines(engine, &[record.clone(), free(1)].concat(), &[y(), record.clone()]);
-                assert_eq!(outcome.register, [record.clone(), y()].concat());
+                assert!((engine.in_order)(&slot(&record)), "{}: {}", engine.name, record.escape_ascii());
+                let outcome = run_lines(engine, &[slot(&record), free(1)].concat(), &[y(), record.clone()]);
+                assert_eq!(outcome.register, slots([record.clone(), y()]));
                 let told = verdicts(engine, &hgv(&[y(), record.clone()]), &outcome);
                 assert_eq!(told, [0, if right { 0 } else { 12 }], "{}", record.escape_ascii());
             }
@@ -57,10 +58,10 @@ fn records_of_any_weight() {
 fn weight_of_a_record_is_digits() {
     for tariff in lists::TARIFFS {
         for weight in [b"    ", b" 350", b"350 ", b"035O", b"0.35"] {
-            let record = with(&with(LINE0, 46, tariff.as_bytes()), 97, weight);
+            let slot = slot(with(&with(LINE0, 46, tariff.as_bytes()), 97, weight));
             for engine in ENGINES {
-                assert!(!(engine.in_order)(&record), "{}: {}", engine.name, record.escape_ascii());
-                assert_eq!(run_lines(engine, &record, &[]).answer.number, 23);
+                assert!(!(engine.in_order)(&slot), "{}: {}", engine.name, slot.escape_ascii());
+                assert_eq!(run_lines(engine, &slot, &[]).answer.number, 23);
             }
         }
     }
@@ -71,11 +72,12 @@ fn weight_of_a_record_is_digits() {
 fn old_record_is_replaced() {
     let old = with(LINE0, 97, b"0350");
     for engine in ENGINES {
-        assert_eq!(run_lines(engine, &old, &[x()]).register, x());
-        assert_eq!(run_lines(engine, &old, &[with(&old, 46, b"31")]).register, with(&old, 46, b"31"));
-        let before = [old.clone(), y()].concat();
+        assert_eq!(run_lines(engine, &slot(&old), &[x()]).register, slot(x()));
+        let heavy = with(&old, 46, b"31");
+        assert_eq!(run_lines(engine, &slot(&old), std::slice::from_ref(&heavy)).register, slot(&heavy));
+        let before = slots([old.clone(), y()]);
         let full = run(engine, 2, R0, &before, ROW0, &hgv(&[old.clone(), y()]), 304);
-        assert_eq!((full.register, full.hgc), ([y(), free(1)].concat(), hgc(1, &[(&old, "12")])));
+        assert_eq!((full.register, full.hgc), ([slot(y()), free(1)].concat(), hgc(1, &[(&old, "12")])));
     }
 }
 
@@ -83,8 +85,8 @@ fn old_record_is_replaced() {
 fn stranger_stays_the_same_bytes() {
     let stranger = with(&y(), 2, b"999999");
     for engine in ENGINES {
-        let outcome = run_lines(engine, &[stranger.clone(), free(1)].concat(), &[x()]);
-        assert_eq!(outcome.register, [stranger.clone(), x()].concat());
+        let outcome = run_lines(engine, &[slot(&stranger), free(1)].concat(), &[x()]);
+        assert_eq!(outcome.register, slots([stranger.clone(), x()]));
     }
 }
 
@@ -94,14 +96,14 @@ fn full_list_closes_up() {
     let b = with(&y(), 2, b"900124");
     let c = with(LINE0, 14, b"9799001200000028");
     for engine in ENGINES {
-        let before = [a.clone(), b.clone(), c.clone()].concat();
+        let before = slots([&a, &b, &c]);
         let outcome = run(engine, 2, R0, &before, ROW0, &hgv(&[c.clone(), a.clone()]), 174);
-        assert_eq!(outcome.register, [b.clone(), c.clone(), a.clone()].concat());
-        let own = [a.clone(), y(), c.clone()].concat();
+        assert_eq!(outcome.register, slots([&b, &c, &a]));
+        let own = slots([&a, &y(), &c]);
         let left_out = run(engine, 2, R0, &own, ROW0, &hgv(&[y(), a.clone()]), 174);
-        assert_eq!(left_out.register, [y(), a.clone(), free(1)].concat());
+        assert_eq!(left_out.register, [slots([&y(), &a]), free(1)].concat());
         let rejected = run(engine, 2, R0, &own, ROW0, &hgv(&[bad(), c.clone(), y()]), 304);
-        assert_eq!(rejected.register, [c.clone(), y(), free(1)].concat());
+        assert_eq!(rejected.register, [slots([&c, &y()]), free(1)].concat());
     }
 }
 

@@ -4,6 +4,7 @@ use crate::common::*;
 use graftspindle_checks::generate::large;
 use graftspindle_checks::generate::line::put;
 use graftspindle_checks::generate::world::pan_of;
+use graftspindle_checks::plain::register::SLOT;
 use std::time::Instant;
 
 fn many(from: usize, n: usize) -> Vec<Vec<u8>> {
@@ -25,7 +26,7 @@ fn largest_file() {
         let outcome = run(engine, 1, R0, &free(8192), ROW0, &file, 174);
         println!("{}: 8,192 new lines, {:?}", engine.name, start.elapsed());
         assert_eq!((outcome.answer.number, outcome.answer.taken), (0, 8192));
-        assert_eq!(outcome.register, lines.concat());
+        assert_eq!(outcome.register, slots(&lines));
         let start = Instant::now();
         let again = run(engine, 2, R0, &outcome.register, ROW0, &file, 174);
         println!("{}: the full list again, {:?}", engine.name, start.elapsed());
@@ -37,11 +38,11 @@ fn largest_file() {
 /// 35 by the largest numbers: half of 8,192 records, and one line less.
 #[test]
 fn largest_thin_list() {
-    let register = many(0, 8192).concat();
+    let register = slots(many(0, 8192));
     for engine in ENGINES {
         assert_eq!(run(engine, 2, R0, &register, ROW0, &hgv(&many(4097, 4095)), 174).answer.number, 35);
         let half = run(engine, 2, R0, &register, ROW0, &hgv(&many(4096, 4096)), 174);
-        assert_eq!(half.register, [many(4096, 4096).concat(), free(4096)].concat());
+        assert_eq!(half.register, [slots(many(4096, 4096)), free(4096)].concat());
     }
 }
 
@@ -70,7 +71,7 @@ fn large_cases() {
     for seed in 0..5 {
         let c = large(seed);
         let outcome = of_all(|e| run(e, c.mode, &c.reception, &c.register, &c.rows, &c.hgv, c.hgc_len));
-        let (n, slots) = ((c.hgv.len() - 192) / 128, c.register.len() / 128);
+        let (n, slots) = ((c.hgv.len() - 192) / 128, c.register.len() / SLOT);
         println!("mode {}, {n} lines, {slots} slots: {:?}", c.mode, outcome.answer);
         if outcome.answer.number == 0 {
             assert_eq!(of_all(|e| verdicts(e, &c.hgv, &outcome)).len(), n);

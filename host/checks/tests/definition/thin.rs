@@ -4,6 +4,7 @@
 use crate::common::*;
 use graftspindle::raw::Counted;
 use graftspindle_checks::generate::case;
+use graftspindle_checks::plain::register::SLOT;
 use graftspindle_checks::plain::rules_broken;
 use graftspindle_checks::sample;
 
@@ -23,7 +24,7 @@ fn of_another(from: usize, to: usize) -> Vec<Vec<u8>> {
 
 /// What all answer at R0 to these lines in a register of these records, with a slot for each line and room enough.
 fn answered(mode: u64, records: &[Vec<u8>], lines: &[Vec<u8>]) -> Outcome {
-    let register = [records.concat(), free(lines.len())].concat();
+    let register = [slots(records), free(lines.len())].concat();
     of_all(|engine| run(engine, mode, R0, &register, ROW0, &hgv(lines), 174 + 130 * lines.len()))
 }
 
@@ -42,7 +43,7 @@ fn eleven_lines() {
     assert_eq!(number(2, &accounts(0, 4), &sent[..2]), 0);
     assert_eq!(number(2, &accounts(0, 4), &sent[..1]), 35);
     let left = answered(2, &accounts(0, 22), &sent);
-    assert_eq!(left.register, [sent.concat(), free(22)].concat());
+    assert_eq!(left.register, [slots(&sent), free(22)].concat());
 }
 
 /// Whether the accounts are held or new, and whether other providers have records plays no part; mode 1 never stops.
@@ -114,7 +115,7 @@ fn empty_list() {
 #[test]
 fn between_32_and_34() {
     for (held, taken) in [(1, 0), (3, 1), (4, 1), (22, 10)] {
-        let (register, file) = (accounts(0, held).concat(), hgv(&accounts(0, taken)));
+        let (register, file) = (slots(accounts(0, held)), hgv(&accounts(0, taken)));
         for room in [0, 173, 174] {
             assert_eq!(of_all(|e| run(e, 2, R0, &register, ROW0, &file, room)).answer.number, 35);
         }
@@ -124,18 +125,26 @@ fn between_32_and_34() {
         assert_eq!(of_all(|e| run(e, 2, R0, &register, ROW0, &more, 0)).answer.number, 33);
     }
     let frame = with(&hgv(&accounts(0, 1)), 256, b" ");
-    assert_eq!(of_all(|e| run(e, 2, R0, &accounts(0, 4).concat(), ROW0, &frame, 173)).answer.number, 32);
+    assert_eq!(of_all(|e| run(e, 2, R0, &slots(accounts(0, 4)), ROW0, &frame, 173)).answer.number, 32);
+}
+
+/// One byte changed. An actor's digit changes in his list too, since a record is stamped by a list of its actor.
+fn changed(register: &[u8], at: usize, value: u8) -> Vec<u8> {
+    let of_actor = (1..7).contains(&(at % SLOT));
+    let mut changed = with(register, at + 1, &[value]);
+    changed[if of_actor { at + 130 } else { at }] = value;
+    changed
 }
 
 /// One account of three is sent again. A record more of another actor, and it is one of two; unless that is the account sent,
 /// which then is rejected.
 #[test]
 fn every_changed_byte_of_the_records() {
-    let (register, file) = ([x(), y(), accounts(5, 6).concat()].concat(), hgv(&[y()]));
+    let (register, file) = (slots([x(), y(), accounts(5, 6).concat()]), hgv(&[y()]));
     let mut numbers = Counts::new();
     for at in 0..register.len() {
         for value in 0..=255 {
-            let changed = with(&register, at + 1, &[value]);
+            let changed = changed(&register, at, value);
             count(&mut numbers, of_all(|e| run(e, 2, R0, &changed, ROW0, &file, 304)).answer.number);
         }
     }
@@ -151,9 +160,9 @@ fn none_in_an_update() {
         for taken in 0..=held {
             let lines = accounts(0, taken);
             let applied = of_all(|engine| {
-                let mut copy = accounts(0, held).concat();
+                let mut copy = slots(accounts(0, held));
                 let answer = (engine.update)(2, &mut copy, &hgv(&lines), &hgc(taken, &[]));
-                assert_eq!(copy, [lines.concat(), free(held - taken)].concat(), "{}", engine.name);
+                assert_eq!(copy, [slots(&lines), free(held - taken)].concat(), "{}", engine.name);
                 answer
             });
             assert_eq!(applied, Counted { number: 0, taken: taken as u64, rejected: 0 });
@@ -163,7 +172,7 @@ fn none_in_an_update() {
 
 /// The sender's records in a register.
 fn held_in(register: &[u8], sender: &[u8]) -> usize {
-    register.chunks_exact(128).filter(|slot| slot[0] == b'1' && &slot[1..7] == sender).count()
+    register.chunks_exact(SLOT).filter(|slot| slot[0] == b'1' && &slot[1..7] == sender).count()
 }
 
 /// Twice the taken lines beside the records held: by how many they differ, as far as two either way.
@@ -184,7 +193,7 @@ fn about_half() {
         }
         let beside = beside_half(&c.register, &c.rows, &c.hgv);
         assert_eq!(answered.number == 35, beside < 0, "seed {seed}");
-        let used = c.register.chunks(128).filter(|slot| slot[0] == b'1').count();
+        let used = c.register.chunks(SLOT).filter(|slot| slot[0] == b'1').count();
         count(&mut reached, (beside, used > held_in(&c.register, &c.hgv[1..7])));
     }
     let expected = (-2..=2).flat_map(|beside| [(beside, false), (beside, true)]).collect();
@@ -206,7 +215,7 @@ fn between_accepted_files() {
         (2, accounts(8, 9), 0),
     ];
     for engine in ENGINES {
-        let (mut register, mut copy) = ([of_another(30, 33).concat(), free(6)].concat(), free(9));
+        let (mut register, mut copy) = ([slots(of_another(30, 33)), free(6)].concat(), free(9));
         for (mode, lines, expected) in &steps {
             let outcome = run(engine, *mode, R0, &register, ROW0, &hgv(lines), 174 + 130 * lines.len());
             assert_eq!(outcome.answer.number, *expected, "{}", engine.name);
@@ -216,6 +225,6 @@ fn between_accepted_files() {
             register = outcome.register;
             assert_eq!(copy, copy_expected(&register, b"900123"));
         }
-        assert_eq!(register, [of_another(30, 33).concat(), accounts(8, 9).concat(), free(5)].concat());
+        assert_eq!(register, [slots(of_another(30, 33)), slots(accounts(8, 9)), free(5)].concat());
     }
 }

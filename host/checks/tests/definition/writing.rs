@@ -3,6 +3,7 @@
 
 use crate::common::*;
 use graftspindle_checks::generate::{giving, large_giving, Giving};
+use graftspindle_checks::plain::register::SLOT;
 use graftspindle_checks::plain::{causes_of_61, Cause};
 use graftspindle_checks::sample::account_of;
 
@@ -70,14 +71,14 @@ fn assert_taken(file: &[u8], g: &Giving) {
     let n = lines(file).count();
     let outcome = of_all(|engine| run(engine, 1, R0, &free(n), &g.rows, file, 174));
     assert_eq!((outcome.answer.number, outcome.answer.taken, outcome.answer.rejected), (0, n as u64, 0));
-    for (slot, line) in outcome.register.chunks(128).zip(lines(file)) {
-        assert!(slot[..100] == line[..100] && slot[114..] == line[114..]);
+    for (slot, line) in outcome.register.chunks(SLOT).zip(lines(file)) {
+        assert!(slot[..100] == line[..100] && slot[114..128] == line[114..] && slot[128..147] == file[13..32]);
     }
 }
 
 /// The records of the PANs that somebody holds.
 fn held(file: &[u8], g: &Giving) -> Vec<u8> {
-    let of_holder = |(line, holder): (&[u8], &Option<Vec<u8>>)| holder.as_ref().map(|actor| with(line, 2, actor));
+    let of_holder = |(line, holder): (&[u8], &Option<Vec<u8>>)| holder.as_ref().map(|actor| slot(with(line, 2, actor)));
     lines(file).zip(&g.holders).filter_map(of_holder).flatten().collect()
 }
 

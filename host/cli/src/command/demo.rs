@@ -11,7 +11,7 @@ use super::{look, texts, Answer, Command, Refusal, Told};
 use crate::files::disk::told;
 use crate::files::private::Private;
 use crate::files::Disk;
-use graftspindle::Register;
+use graftspindle::{Register, Slot};
 
 pub static DEMO: Command = Command {
     name: "demo",
@@ -34,7 +34,7 @@ const FILES: [(&str, &[u8]); 5] = [
 ];
 
 /// What is said, and the commands, in their order. A word that names a file of the demo begins with `/`.
-const STORY: [(&str, &[&str]); 11] = [
+const STORY: [(&str, &[&str]); 12] = [
     ("The issuers that are accepted, three providers", &["issuers from-ait --issuers /rows /issuers.ait"]),
     (
         "Two providers write their lists from spreadsheets; 900123 has a program of his own, which makes mistakes",
@@ -80,6 +80,7 @@ const STORY: [(&str, &[&str]); 11] = [
         ],
     ),
     ("The register then", &["register show --at 20250312080000 /register"]),
+    ("Which file touched how many of its accounts", &["register show --lists /register"]),
 ];
 
 fn words(command: &str, folder: &Path) -> Vec<OsString> {
@@ -104,8 +105,8 @@ fn tell(disk: &dyn Disk, folder: &Path) -> Result<String, Refusal> {
     Ok(told)
 }
 
-fn held_for<'a>(actor: &'a str, register: &'a Register) -> Vec<&'a [u8]> {
-    register.records().filter(|slot| texts::actor(slot) == actor).collect()
+fn held_for<'a>(actor: &str, register: &'a Register) -> Vec<Slot<'a>> {
+    register.records().filter(|slot| texts::actor(slot.record()) == actor).collect()
 }
 
 fn compare(disk: &dyn Disk, folder: &Path) -> Result<String, Refusal> {

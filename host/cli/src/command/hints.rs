@@ -1,10 +1,12 @@
 //! What a refusal says beside its sentence: the file, and what can be read from it. Nothing is judged here; where something
 //! has to be, the proved functions are asked.
 
+use std::fmt::Display;
+
 use super::input::Input;
 use super::{texts, Refusal};
-use graftspindle::sizes::{FOOTER, HEADER, HGV_MOST, LINE, ROW, SLOT, SLOTS_MOST};
-use graftspindle::{Counts, Number, Register};
+use graftspindle::sizes::{FOOTER, HEADER, HGV_MOST, LINE, RECORD, ROW, SLOT, SLOTS_MOST};
+use graftspindle::{Counts, Number, Register, Slot};
 
 /// Of an HGV alone.
 pub fn of_hgv(number: Number, hgv: &Input) -> Refusal {
@@ -73,6 +75,35 @@ pub fn actors(rows: &Input) -> String {
     actors.join(", ")
 }
 
+/// Of a register that is not in order: `name` is what else is said of it.
+pub fn of_order(name: impl Display, bytes: &[u8]) -> Refusal {
+    of_disorder(name, bytes, "register", "a full list from each provider")
+}
+
+/// Of a copy that is not in order.
+pub fn of_copy(name: &str, bytes: &[u8]) -> Refusal {
+    of_disorder(name, bytes, "copy", "the next full list and its HGC")
+}
+
+fn of_disorder(name: impl Display, bytes: &[u8], what: &str, with: &str) -> Refusal {
+    let way_on = match slots_before_stamps(bytes) {
+        None => String::new(),
+        Some(slots) => format!(
+            "; its length is that of {} of {RECORD} bytes, from before the stamp, which nobody can make up for them: begin a \
+             new {what} (graftspindle register new --slots {slots}) with {with}",
+            parts(slots, "slot")
+        ),
+    };
+    Refusal::Number(Number::Order, format!("{name}{way_on}"))
+}
+
+/// How many slots a register has that can only be from before the stamp, when a slot was its record alone.
+fn slots_before_stamps(bytes: &[u8]) -> Option<usize> {
+    let whole = |length: usize| bytes.len().is_multiple_of(length);
+    let slots = bytes.len() / RECORD;
+    (whole(RECORD) && !whole(SLOT) && slots <= SLOTS_MOST).then_some(slots)
+}
+
 /// How many slots are short: the same is tried on a register with as many free slots behind it as there can be.
 pub fn of_slots(name: &str, bytes: &[u8], again: impl FnOnce(&mut Register) -> Result<(), Number>) -> Refusal {
     let slots = bytes.len() / SLOT;
@@ -100,8 +131,9 @@ pub fn of_thin(
     again: impl FnOnce(&mut Register) -> Result<Counts, Number>,
 ) -> Refusal {
     let (register, sender) = (Register::from_bytes(bytes.to_vec()), texts::sender(&hgv.bytes));
-    let (held, others): (Vec<&[u8]>, Vec<&[u8]>) = register.records().partition(|slot| texts::actor(slot) == sender);
-    let mut without = others.concat();
+    let is_held = |slot: &Slot| texts::actor(slot.record()) == sender;
+    let (held, others): (Vec<Slot>, Vec<Slot>) = register.records().partition(is_held);
+    let mut without: Vec<u8> = others.into_iter().flat_map(Slot::bytes).copied().collect();
     without.resize(bytes.len(), 0);
     let would = match again(&mut Register::from_bytes(without)) {
         Err(_) => String::new(),

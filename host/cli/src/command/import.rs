@@ -64,7 +64,7 @@ fn explained(number: Number, import: &Import, names: &Names, register: &[u8]) ->
     let (hgv, rows) = (names.hgv, names.rows);
     match number {
         Number::Time => Refusal::Number(number, texts::shown(import.reception)),
-        Number::Order => Refusal::Number(number, names.register.to_string()),
+        Number::Order => hints::of_order(names.register, register),
         Number::Rows => Refusal::Number(number, rows.name.clone()),
         Number::Parties => hints::of_parties(hgv, rows),
         Number::Slots => hints::of_slots(names.register, register, |largest| largest.import(import).map(|_| ())),

@@ -107,6 +107,7 @@ option!(HGV, "hgv", "OUT", Kind::File, "Where the list is written.");
 option!(TEMPLATE, "template", "Prints a CSV file to begin with: the names of the fields, and three accounts.");
 option!(FORCE, "force", "Replaces what is there, of whatever kind it is.");
 option!(WEIGHTS, "weights", "Only the records whose weight a line of their tariff cannot have, as a list.");
+option!(LISTS, "lists", "Counts the records by the list that touched each last.");
 option!(REJECTED, "rejected", "Only the lines that were rejected.");
 option!(LINE_NUMBER, "line", "N", Kind::Text, "That line alone, counted from 1.");
 option!(DISCARD, "discard", "Removes what was left, with an HGC that is still owed.");

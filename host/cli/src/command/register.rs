@@ -3,6 +3,7 @@
 pub mod check;
 pub mod grow;
 pub mod list;
+mod lists;
 pub mod new;
 pub mod recover;
 pub mod show;

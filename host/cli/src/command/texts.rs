@@ -1,4 +1,4 @@
-//! ISO 8859-1 in and out, and the fields of a line or slot that are shown.
+//! ISO 8859-1 in and out, and the fields of a line or record that are shown.
 
 use super::Refusal;
 
@@ -37,12 +37,12 @@ pub fn nationality(line: &[u8]) -> String {
     positions(line, 43, 45)
 }
 
-pub fn context_mark(slot: &[u8]) -> String {
-    positions(slot, 50, 61)
+pub fn context_mark(record: &[u8]) -> String {
+    positions(record, 50, 61)
 }
 
-pub fn obe(slot: &[u8]) -> String {
-    positions(slot, 62, 79)
+pub fn obe(record: &[u8]) -> String {
+    positions(record, 62, 79)
 }
 
 /// Of an HGV's header, as far as it reaches.
@@ -83,11 +83,11 @@ pub fn version(hgv: &[u8]) -> String {
     of_header(hgv, 95, 100)
 }
 
-pub fn end(slot: &[u8]) -> String {
-    positions(slot, 101, 114)
+pub fn end(record: &[u8]) -> String {
+    positions(record, 101, 114)
 }
 
 /// The keys of the lookup by plate, as they stand.
-pub fn plate_key(slot: &[u8]) -> (&[u8], &[u8]) {
-    (&slot[32..42], &slot[42..45])
+pub fn plate_key(record: &[u8]) -> (&[u8], &[u8]) {
+    (&record[32..42], &record[42..45])
 }

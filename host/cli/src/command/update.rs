@@ -38,7 +38,8 @@ fn update<'a>(disk: &'a dyn Disk, given: &Arguments, entry: &mut Entry<'a>) -> A
     let mut copy = Register::from_bytes(before.clone());
     let update = |copy: &mut Register| copy.update(mode, &hgv.bytes, &hgc.bytes);
     let counts = update(&mut copy).map_err(|number| match number {
-        Number::Order | Number::OtherActor => Refusal::Number(number, name.clone()),
+        Number::Order => hints::of_copy(&name, &before),
+        Number::OtherActor => Refusal::Number(number, name.clone()),
         Number::Slots => hints::of_slots(&name, &before, |largest| update(largest).map(|_| ())),
         other => hints::of_pair(other, &hgv, &hgc),
     })?;

@@ -59,10 +59,10 @@ fn stops_of_the_rest() {
     let folder = ready();
     folder.write("hgv", &with(95, b"220001"));
     assert_refused(&folder, &IMPORT.replace("incremental", "full"), 28);
-    folder.write("register", &folder.read("register")[..128]);
+    folder.write("register", &folder.read("register")[..SLOT]);
     folder.write("hgv", &sample::hgv(2));
     assert_refused(&folder, IMPORT, 33);
-    folder.write("register", sample::hgv(4)[128..5 * 128].as_ref());
+    folder.write("register", &sample::slots((0..4).map(sample::line)));
     folder.write("hgv", &sample::hgv(1));
     assert_refused(&folder, &IMPORT.replace("incremental", "full"), 35);
     folder.write("register", b"1");

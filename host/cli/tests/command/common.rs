@@ -1,6 +1,7 @@
 //! A folder for each test with the files of the demo in it, and the command run on them.
 
 use graftspindle::raw;
+use graftspindle::sizes::SLOT;
 use graftspindle_checks::sample;
 use std::fs;
 use std::io::Write;
@@ -98,7 +99,7 @@ pub const IMPORT: &str =
 /// A register that holds the first line of the sample, and a file of four lines, of which one is faulty.
 pub fn ready() -> Folder {
     let folder = Folder::new();
-    let (mut register, mut hgc, rows) = (vec![0; 8 * 128], vec![0; 1000], sample::row());
+    let (mut register, mut hgc, rows) = (vec![0; 8 * SLOT], vec![0; 1000], sample::row());
     let first = raw::import(1, sample::RECEPTION, &mut register, &rows, &sample::hgv(1), &mut hgc);
     let mut hgv = sample::hgv(4);
     hgv[128 + 3 * 128 + 79] = b'X';

@@ -1,6 +1,7 @@
 //! `lookup` and `register` on a small register.
 
 use crate::common::*;
+use graftspindle::sizes::SLOT;
 use graftspindle_checks::plain::words::is_real_time;
 use graftspindle_checks::sample;
 use graftspindle_cli::command::clock;
@@ -17,8 +18,9 @@ fn by_pan() {
     let pan = sample::pan(2);
     let done = graftspindle(&folder, &format!("lookup pan --register @register {pan}"));
     assert_eq!(done.status, 0);
-    let head = format!("slot 2: actor 900123, PAN {pan}, plate GS0002 DE, end 00000000000000\n");
-    assert_eq!(done.said, head + &sample::line(2));
+    let asked = format!("slot 2: actor 900123, PAN {pan}, plate GS0002 DE, end 00000000000000");
+    let stamp = "list HGV9001232025031001, received 20250310050000";
+    assert_eq!(done.said, format!("{asked}, {stamp}\n{}", sample::line(2)));
     let numbers = [("0", 41), ("97990012000000289", 41), ("12345678901234567890", 40), ("97 99", 40), ("", 40)];
     for (pan, number) in numbers {
         let line = "lookup pan --register @register";
@@ -40,8 +42,8 @@ fn by_plate() {
     assert_eq!(status("GS0001 SE"), 41);
     assert_eq!(status("GS0001 D"), 40);
     assert_eq!(status("ö DE"), 40);
-    let twice = [sample::line(1), sample::line(2).replace("GS0002", "GS0001")].concat();
-    folder.write("register", twice.as_bytes());
+    let twice = [sample::line(1), sample::line(2).replace("GS0002", "GS0001")];
+    folder.write("register", &sample::slots(twice));
     assert_eq!(status("GS0001 DE"), 42);
     folder.write("register", b"1");
     assert_eq!(status("GS0001 DE"), 23);
@@ -51,8 +53,8 @@ fn by_plate() {
 fn show() {
     let folder = filled();
     let mut register = folder.read("register");
-    register[128 + 100..128 + 114].copy_from_slice(b"20250310050000");
-    register[256 + 1..256 + 7].copy_from_slice(b"900124");
+    register[SLOT + 100..SLOT + 114].copy_from_slice(b"20250310050000");
+    register.splice(2 * SLOT..3 * SLOT, sample::slot(sample::line(2).replacen("900123", "900124", 1)));
     folder.write("register", &register);
     let told = |time: &str| graftspindle(&folder, &format!("register show --at {time} @register")).said;
     let rest = "actor 900124: active 1, ended 0\nslots 8, used 3, free 5\n";
@@ -67,7 +69,7 @@ fn new() {
     for slots in [0, 1, 8192] {
         let name = format!("fresh{slots}");
         assert_eq!(graftspindle(&folder, &format!("register new --slots {slots} @{name}")).status, 0);
-        assert_eq!(folder.read(&name), vec![0; 128 * slots]);
+        assert_eq!(folder.read(&name), vec![0; SLOT * slots]);
         let shown = graftspindle(&folder, &format!("register show @{name}")).said;
         assert_eq!(shown, format!("slots {slots}, used 0, free {slots}\n"));
     }

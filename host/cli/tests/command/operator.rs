@@ -2,6 +2,7 @@
 
 use crate::common::*;
 use crate::steps::{faulty, run, Fate};
+use graftspindle::sizes::SLOT;
 use graftspindle_checks::sample;
 use graftspindle_cli::files::{lock, Place};
 use std::process::Command;
@@ -155,7 +156,7 @@ fn grow() {
     assert_eq!(status("register grow --slots 8193 @register"), 1);
     assert_eq!(folder.read("register"), before);
     assert!(said(&folder, "register grow --slots 20 @register").starts_with("20 slots in "));
-    assert_eq!(folder.read("register"), [before, vec![0; 12 * 128]].concat());
+    assert_eq!(folder.read("register"), [before, vec![0; 12 * SLOT]].concat());
     folder.write("register", b"1");
     assert_eq!(status("register grow --slots 20 @register"), 23);
 }
@@ -165,7 +166,7 @@ fn list() {
     let folder = ready();
     assert_eq!(graftspindle(&folder, IMPORT).status, 0);
     let mut register = folder.read("register");
-    register[128 + 100..128 + 114].copy_from_slice(b"20250310050000");
+    register[SLOT + 100..SLOT + 114].copy_from_slice(b"20250310050000");
     folder.write("register", &register);
     let told = said(&folder, "register list --at 20250310050000 @register");
     let lines: Vec<&str> = told.lines().collect();

@@ -42,8 +42,7 @@ fn refusals() {
     assert!(folder.all() == before);
     assert_eq!(status("register new --slots 2 @small"), 0);
     assert_eq!(status("update --copy @small --mode full @hgv @hgc"), 33);
-    let mut foreign = sample::line(0).into_bytes();
-    foreign[1..7].copy_from_slice(b"900124");
+    let foreign = sample::slot(sample::line(0).replacen("900123", "900124", 1));
     folder.write("small", &foreign);
     assert_eq!(status("update --copy @small --mode full @hgv @hgc"), 51);
     assert_eq!(folder.read("small"), foreign);

@@ -2,6 +2,7 @@
 
 use crate::common::*;
 use crate::hooked::Hooked;
+use graftspindle::sizes::SLOT;
 use graftspindle_cli::command;
 use graftspindle_cli::files::Disk;
 use std::cell::Cell;
@@ -156,7 +157,7 @@ fn grown_register_and_replaced_rows() {
     at_each_step(Fate::Stop, grow, |folder, answer| {
         assert_eq!(graftspindle(folder, STARTS[0]).status, 0);
         let found = folder.read("register");
-        assert!(found == [old.clone(), vec![0; 4 * 128]].concat() || found == old && answer.is_err());
+        assert!(found == [old.clone(), vec![0; 4 * SLOT]].concat() || found == old && answer.is_err());
         assert_eq!(folder.all().len(), 4, "left over: {:?}", folder.all());
     });
     let from_ait = format!("issuers from-ait --issuers @rows {AIT}");

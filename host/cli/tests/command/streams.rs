@@ -1,6 +1,7 @@
 //! Streams that take nothing, or end early: never a panic, and the status stays what it is.
 
 use crate::common::*;
+use graftspindle::sizes::SLOT;
 use graftspindle_checks::sample;
 use std::process::{Command, Stdio};
 
@@ -29,7 +30,7 @@ fn error_stream_that_takes_nothing() {
 #[test]
 fn pipe_that_closes_early() {
     let folder = ready();
-    folder.write("register", &[0; 128 * 8192]);
+    folder.write("register", &[0; SLOT * 8192]);
     folder.write("hgv", &sample::hgv(8192));
     assert_eq!(graftspindle(&folder, IMPORT).status, 0);
     let mut command = Command::new(program());

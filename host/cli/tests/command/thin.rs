@@ -1,15 +1,12 @@
 //! 35: a full list that is too thin. The refusal says how many records are held and how many lines would be taken.
 
 use crate::common::*;
-use graftspindle_checks::sample;
+use graftspindle::sizes::SLOT;
+use graftspindle_checks::sample::{self, slots};
 use std::ops::Range;
 
 const FULL: &str =
     "import --register @register --issuers @rows --mode full --received 20250310050000 --hgc @confirmed @sent";
-
-fn slots(lines: impl IntoIterator<Item = String>) -> Vec<u8> {
-    lines.into_iter().collect::<String>().into_bytes()
-}
 
 /// The same line as a record of another provider.
 fn foreign(i: usize) -> String {
@@ -19,7 +16,7 @@ fn foreign(i: usize) -> String {
 /// A register with these records and two free slots; the sender's rows; no HGC yet.
 fn holding(records: impl IntoIterator<Item = String>) -> Folder {
     let folder = Folder::new();
-    folder.write("register", &[slots(records), vec![0; 2 * 128]].concat());
+    folder.write("register", &[slots(records), vec![0; 2 * SLOT]].concat());
     folder.write("rows", &sample::row());
     folder
 }
@@ -59,7 +56,7 @@ fn assert_thin(folder: &Folder, list: &[String], records: &str, lines: &str) {
 fn assert_taken(folder: &Folder, list: &[String], used: usize) {
     let done = send(folder, list, FULL);
     assert_eq!((done.status, done.fault.as_str()), (0, ""));
-    let kept = folder.read("register").chunks(128).filter(|slot| slot[0] != 0).count();
+    let kept = folder.read("register").chunks(SLOT).filter(|slot| slot[0] != 0).count();
     assert_eq!(kept, used);
 }
 
@@ -169,7 +166,7 @@ fn update_of_a_copy() {
     folder.write("copy", &slots(lines(0..4)));
     let done = graftspindle(&folder, "update --copy @copy --mode full @sent @confirmed");
     assert_eq!((done.status, done.fault.as_str()), (0, ""));
-    assert_eq!(folder.read("copy"), [slots(lines(0..1)), vec![0; 3 * 128]].concat());
+    assert_eq!(folder.read("copy"), [slots(lines(0..1)), vec![0; 3 * SLOT]].concat());
 }
 
 /// What is wrong with the file itself is said first.

@@ -1,6 +1,7 @@
 //! Several imports of one register at once.
 
 use crate::common::*;
+use graftspindle::sizes::SLOT;
 use graftspindle_checks::sample;
 use std::process::{Child, Command, Stdio};
 
@@ -25,7 +26,7 @@ fn start(folder: &Folder, i: usize) -> Child {
 #[test]
 fn all_succeed_one_after_the_other() {
     let folder = Folder::new();
-    folder.write("register", &[0; 128 * IMPORTS]);
+    folder.write("register", &[0; SLOT * IMPORTS]);
     folder.write("rows", &sample::row());
     (0..IMPORTS).for_each(|i| folder.write(&format!("hgv{i}"), &hgv_of(i)));
     let running: Vec<Child> = (0..IMPORTS).map(|i| start(&folder, i)).collect();
@@ -35,10 +36,9 @@ fn all_succeed_one_after_the_other() {
         assert!(done.status == 0 && done.fault.lines().all(waited), "{}", done.fault);
     }
     let register = folder.read("register");
-    let mut held: Vec<&[u8]> = register.chunks(128).collect();
+    let mut held: Vec<&[u8]> = register.chunks(SLOT).collect();
     held.sort();
-    let sent: Vec<String> = (0..IMPORTS).map(sample::line).collect();
-    assert_eq!(held, sent.iter().map(|line| line.as_bytes()).collect::<Vec<_>>());
+    assert_eq!(held, (0..IMPORTS).map(|i| sample::slot(sample::line(i))).collect::<Vec<_>>());
     (0..IMPORTS).for_each(|i| assert_eq!(folder.read(&format!("hgc{i}")).len(), 174));
 }
 

@@ -1,6 +1,7 @@
 //! `register show --weights`: the records whose weight a line of their tariff cannot have.
 
 use crate::common::*;
+use graftspindle::sizes::SLOT;
 use graftspindle_checks::sample;
 
 const SHOW: &str = "register show --weights --at 20250310050000 @register";
@@ -48,7 +49,7 @@ fn record(i: usize, tariff: &str, weight: &str) -> Vec<u8> {
 fn holding(pairs: &[(&str, &str)]) -> Folder {
     let folder = ready();
     let records = pairs.iter().enumerate().map(|(i, (tariff, weight))| record(i, tariff, weight));
-    folder.write("register", &records.chain([vec![0; 2 * 128]]).collect::<Vec<_>>().concat());
+    folder.write("register", &[sample::slots(records), vec![0; 2 * SLOT]].concat());
     folder
 }
 
@@ -89,7 +90,7 @@ fn none() {
     assert_eq!(said(&folder, SHOW), "listed none of 19 records: a line of the tariff can have the weight of each\n");
     let told = said(&folder, &format!("{SHOW} --json"));
     assert_eq!(told, "{\"status\":0,\"used\":19,\"listed\":0,\"records\":[]}\n");
-    folder.write("register", &[0; 3 * 128]);
+    folder.write("register", &[0; 3 * SLOT]);
     assert_eq!(said(&folder, SHOW), "listed none of 0 records: a line of the tariff can have the weight of each\n");
 }
 
@@ -115,10 +116,10 @@ fn one_as_json() {
 #[test]
 fn actors_and_times() {
     let folder = holding(&[("12", "0350"), ("51", "1199")]);
-    let mut register = folder.read("register");
-    register[129..135].copy_from_slice(b"900124");
-    register[128 + 100..128 + 114].copy_from_slice(b"20250310050000");
-    folder.write("register", &register);
+    let mut other = record(1, "51", "1199");
+    other[1..7].copy_from_slice(b"900124");
+    other[100..114].copy_from_slice(b"20250310050000");
+    folder.write("register", &sample::slots([record(0, "12", "0350"), other]));
     let told = said(&folder, SHOW);
     let lines: Vec<&str> = told.lines().collect();
     assert!(lines[1].starts_with("0,900123,") && lines[1].ends_with(",true,12,0350,3501,3510"), "{told}");
@@ -141,11 +142,14 @@ fn refusals() {
     };
     refused(&SHOW.replace("20250310050000", "20250230050000"), 22, "20250230050000");
     refused(&SHOW.replace("@register", "@absent"), 1, "absent");
-    refused("register show --weights", 1, "usage: graftspindle register show [--at YYYYMMDDhhmmss] [--weights] R");
-    for wrong in
-        [record(0, "13", "0349"), record(0, "12", "034 "), [record(0, "12", "9999"), record(0, "12", "9999")].concat()]
-    {
-        folder.write("register", &wrong);
+    refused(
+        "register show --weights",
+        1,
+        "usage: graftspindle register show [--at YYYYMMDDhhmmss] [--weights] [--lists] R",
+    );
+    let twice = [record(0, "12", "9999"), record(0, "12", "9999")];
+    for wrong in [&[record(0, "13", "0349")][..], &[record(0, "12", "034 ")], &twice] {
+        folder.write("register", &sample::slots(wrong));
         refused(SHOW, 23, &folder.text("register"));
     }
     assert_eq!(graftspindle(&folder, "register list --weights @register").status, 1);
@@ -209,7 +213,7 @@ fn largest_register() {
     let folder = ready();
     let weight = |i: usize| ["0349", "0350"][i % 2];
     let records: Vec<Vec<u8>> = (0..8192).map(|i| record(i, "31", weight(i))).collect();
-    folder.write("register", &records.concat());
+    folder.write("register", &sample::slots(records));
     let told = said(&folder, SHOW);
     assert!(told.ends_with("listed 4096 of 8192 records: no line of the tariff can have the weight\n"));
     assert_eq!(slots(&told), (0..8192).step_by(2).collect::<Vec<usize>>());

@@ -1,6 +1,7 @@
 //! What a refusal says beside its sentence: the file, and what can be said of it.
 
 use crate::common::*;
+use graftspindle::sizes::SLOT;
 use graftspindle_checks::sample;
 
 fn with(from: usize, field: &[u8]) -> Vec<u8> {
@@ -55,15 +56,15 @@ fn half_of_29() {
 #[test]
 fn slots_that_are_short() {
     let folder = ready();
-    let one = folder.read("register")[..128].to_vec();
+    let one = folder.read("register")[..SLOT].to_vec();
     folder.write("register", &one);
     folder.write("hgv", &sample::hgv(4));
     assert_says(&folder, IMPORT, 33, &[&folder.text("register"), "has 1 slot", "3 more are needed", "register grow"]);
-    folder.write("register", &[0; 3 * 128]);
+    folder.write("register", &[0; 3 * SLOT]);
     assert_says(&folder, IMPORT, 33, &["has 3 slots", "1 more is needed"]);
-    folder.write("register", &[0; 8 * 128]);
+    folder.write("register", &[0; 8 * SLOT]);
     assert_eq!(graftspindle(&folder, IMPORT).status, 0);
-    folder.write("small", &[0; 2 * 128]);
+    folder.write("small", &[0; 2 * SLOT]);
     let update = "update --copy @small --mode incremental @hgv @hgc";
     assert_says(&folder, update, 33, &[&folder.text("small"), "has 2 slots", "2 more are needed"]);
 }
@@ -72,8 +73,7 @@ fn slots_that_are_short() {
 #[test]
 fn slots_that_no_register_has() {
     let folder = ready();
-    let lines: Vec<String> = (0..8192).map(sample::line).collect();
-    folder.write("register", lines.concat().as_bytes());
+    folder.write("register", &sample::slots((0..8192).map(sample::line)));
     let more: Vec<String> = (8192..8200).map(sample::line).collect();
     folder.write("hgv", &sample::hgv_of(&more));
     assert_says(&folder, IMPORT, 33, &["has 8192 slots", "no register has more"]);

@@ -1,6 +1,7 @@
 //! The calls that are timed, each with so many lines and as many slots.
 
 use graftspindle::raw::Counted;
+use graftspindle::sizes::SLOT;
 use graftspindle_checks::engines::{Engine, ENGINES};
 use graftspindle_checks::sample;
 
@@ -21,16 +22,16 @@ fn file(size: usize, line: Lines) -> Vec<u8> {
 }
 
 fn free(size: usize) -> Vec<u8> {
-    vec![0; 128 * size]
+    vec![0; SLOT * size]
 }
 
 fn full(size: usize) -> Vec<u8> {
-    (0..size).map(sample::line).collect::<String>().into_bytes()
+    sample::slots((0..size).map(sample::line))
 }
 
 /// A full list of rejected lines stops at 35 where the sender has records.
 fn full_of_another(size: usize) -> Vec<u8> {
-    (0..size).map(|i| sample::line(i).replacen("900123", "900124", 1)).collect::<String>().into_bytes()
+    sample::slots((0..size).map(|i| sample::line(i).replacen("900123", "900124", 1)))
 }
 
 /// Every second line is faulty.
@@ -77,12 +78,12 @@ fn by_plate(engine: &Engine, case: &Case, _: &mut [Vec<u8>]) -> [u64; 4] {
 }
 
 fn lookups(size: usize) -> Vec<Case> {
-    let start = 128 * (size as u64 - 1);
+    let (start, slot) = ((SLOT * (size - 1)) as u64, SLOT as u64);
     let pan = |i| format!("{:<19}", sample::pan(i));
     let calls: [(&str, String, _, [u64; 4]); 4] = [
-        ("PAN, the last record", pan(size - 1), by_pan as fn(&Engine, &Case, &mut [Vec<u8>]) -> _, [0, start, 128, 0]),
+        ("PAN, the last record", pan(size - 1), by_pan as fn(&Engine, &Case, &mut [Vec<u8>]) -> _, [0, start, slot, 0]),
         ("PAN, none", pan(size), by_pan, [41, 0, 0, 0]),
-        ("plate, the last record", sample::plate(size - 1), by_plate, [0, start, 128, 0]),
+        ("plate, the last record", sample::plate(size - 1), by_plate, [0, start, slot, 0]),
         ("plate, none", sample::plate(size), by_plate, [41, 0, 0, 0]),
     ];
     let case = |(key, text, call, expected): (&str, String, _, _)| Case {

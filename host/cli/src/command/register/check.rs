@@ -4,10 +4,10 @@ use std::path::Path;
 
 use crate::command::arguments::Arguments;
 use crate::command::json::Json;
-use crate::command::{Answer, Command, Refusal, Told};
+use crate::command::{hints, Answer, Command, Refusal, Told};
 use crate::files::{left, lock, Disk, Place};
 use graftspindle::sizes::REGISTER_MOST;
-use graftspindle::{Number, Register};
+use graftspindle::Register;
 
 pub static CHECK: Command = Command {
     name: "register check",
@@ -38,7 +38,7 @@ fn run(disk: &dyn Disk, given: &Arguments) -> Answer {
     let state = left.clone().unwrap_or("nothing is left of a stopped import".to_string());
     let words = format!("{}; {state}; {lock}", place.path().display());
     if register.in_order().is_err() {
-        return Err(Refusal::Number(Number::Order, words));
+        return Err(hints::of_order(words, register.bytes()));
     }
     if left.is_some() {
         return Err(Refusal::Left(words));

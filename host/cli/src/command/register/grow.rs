@@ -7,7 +7,7 @@ use crate::command::arguments::Arguments;
 use crate::command::entry::{self, Entry};
 use crate::command::options::Use::{Needed, Optional};
 use crate::command::options::{JOURNAL, SLOTS, WAIT};
-use crate::command::{beside, Answer, Command, Refusal, Told};
+use crate::command::{hints, Answer, Command, Refusal, Told};
 use crate::files::{Disk, Fault, Held, Place};
 use graftspindle::Register;
 
@@ -34,7 +34,7 @@ fn grow<'a>(disk: &'a dyn Disk, given: &Arguments, entry: &mut Entry<'a>) -> Ans
     let (mut bytes, name) = (held.read()?, place.path().display().to_string());
     entry.begin(&name, &bytes);
     let before = Register::from_bytes(bytes.clone());
-    before.in_order().map_err(beside(&name))?;
+    before.in_order().map_err(|_| hints::of_order(&name, before.bytes()))?;
     let (had, slots) = (before.slots().count(), free.slots().count());
     if slots < had {
         return Err(Refusal::Fault(format!("{name} has {had} slots, and none is taken from a register")));

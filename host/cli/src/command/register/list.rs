@@ -7,8 +7,9 @@ use crate::command::arguments::Arguments;
 use crate::command::json::Json;
 use crate::command::options::Use::Optional;
 use crate::command::options::AT;
-use crate::command::{beside, clock, look, texts, Answer, Command, Refusal, Told};
+use crate::command::{beside, clock, hints, look, texts, Answer, Command, Refusal, Told};
 use crate::files::Disk;
+use graftspindle::Slot;
 
 pub static LIST: Command = Command {
     name: "register list",
@@ -25,21 +26,22 @@ Whether one is active is asked for the time, which is UTC and the present one un
 pub const NAMES: [&str; 9] = ["slot", "actor", "pan", "plate", "nationality", "context_mark", "obe", "end", "active"];
 
 /// The same of this one.
-pub fn row(place: usize, slot: &[u8], time: &[u8]) -> Result<Vec<Json>, Refusal> {
+pub fn row(place: usize, slot: Slot, time: &[u8]) -> Result<Vec<Json>, Refusal> {
+    let record = slot.record();
     Ok(vec![
         place.into(),
-        texts::actor(slot).into(),
-        texts::pan(slot).into(),
-        texts::plate(slot).into(),
-        texts::nationality(slot).into(),
-        texts::context_mark(slot).into(),
-        texts::obe(slot).into(),
-        texts::end(slot).into(),
+        texts::actor(record).into(),
+        texts::pan(record).into(),
+        texts::plate(record).into(),
+        texts::nationality(record).into(),
+        texts::context_mark(record).into(),
+        texts::obe(record).into(),
+        texts::end(record).into(),
         is_active(slot, time).map_err(beside(texts::shown(time)))?.into(),
     ])
 }
 
-/// Records, each as a row under the names.
+/// Rows under names.
 pub struct Table {
     pub names: Vec<&'static str>,
     pub rows: Vec<Vec<Json>>,
@@ -68,7 +70,7 @@ fn line(row: &[Json]) -> String {
 fn run(disk: &dyn Disk, given: &Arguments) -> Answer {
     let [path] = given.rest()?;
     let (register, name) = (look(disk, Path::new(path))?, Path::new(path).display());
-    register.in_order().map_err(beside(name))?;
+    register.in_order().map_err(|_| hints::of_order(name, register.bytes()))?;
     let time = given.text_if_given(&AT).map_or_else(clock::now, String::into_bytes);
     let rows: Result<_, Refusal> =
         register.records().enumerate().map(|(place, slot)| row(place, slot, &time)).collect();

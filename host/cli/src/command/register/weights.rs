@@ -6,13 +6,13 @@ use crate::command::by_field::kilograms;
 use crate::command::json::Json;
 use crate::command::write::{Weights, TARIFF, WEIGHT};
 use crate::command::{hints, texts, Answer, Refusal, Told};
-use graftspindle::Register;
+use graftspindle::{Register, Slot};
 
 /// What is told of such a record beside what is told of every record.
 const BESIDE: [&str; 4] = ["tariff", "weight", "kg_from", "kg_to"];
 
-fn beside(slot: &[u8]) -> [Json; 4] {
-    let (tariff, weight) = (texts::shown(TARIFF.of(slot)), texts::shown(WEIGHT.of(slot)));
+fn beside(slot: Slot) -> [Json; 4] {
+    let (tariff, weight) = (texts::shown(TARIFF.of(slot.record())), texts::shown(WEIGHT.of(slot.record())));
     let [from, to] = match kilograms(&weight) {
         Some((from, to)) => [from.into(), to.into()],
         None => [Json::Nothing, Json::Nothing],
@@ -25,7 +25,7 @@ fn listed(register: &Register, time: &[u8]) -> Result<Table, Refusal> {
     let (mut weights, mut rows) = (Weights::new(), Vec::new());
     for (place, slot) in register.records().enumerate() {
         let row = row(place, slot, time)?;
-        if weights.are_refused(slot) {
+        if weights.are_refused(slot.record()) {
             rows.push(row.into_iter().chain(beside(slot)).collect());
         }
     }
