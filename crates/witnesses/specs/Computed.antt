@@ -32,6 +32,8 @@ use Rattle.times.specs.Order.{earlier}
 use Rattle.lines.specs.End.{endOf, recordOf}
 use Rattle.lines.specs.Rules.{L1, L2, L3, L4, L5, L6, L7, nationalityBlank, L8, L9, rulesBy, lineRules, recordHolds, L10}
 use Rattle.lines.specs.laws.Starred.{starred}
+use Rattle.stamps.specs.Stamp.{stamp, stampHolds}
+use Rattle.records.specs.Slot.{slotOf}
 use Rattle.slots.specs.Slots.{slotsOf, marked, records, usedPart}
 use Rattle.register.specs.Register.{usedForm, freeForm, inOrder}
 use Rattle.slots.specs.Search.{holdsPan, placeOf, ofActor, holdsForeign, heldByAnother, countOf}
@@ -81,10 +83,17 @@ counts4 number taken rejected size = record { number = number; taken = taken; re
 
 -- ---- single files, and two in a row
 
+-- a register of two slots after one list, and after two
+abbrev pub held₁ : List ℕ
+held₁ = files.slot files.one (bytes "01") files.line ++ files.free
+
+abbrev pub held₂ : List ℕ
+held₂ = files.slot files.one (bytes "01") files.line ++ files.slot files.one (bytes "02") files.other
+
 pub record Single : Type 0 where
   -- a good line on one free slot is taken, and that slot then holds the record
   pub good-answer : answerTo (empty 1) (with 1 files.good) ≡ counts4 0 1 0 174
-  pub good-register : after (empty 1) (with 1 files.good) ≡ files.line
+  pub good-register : after (empty 1) (with 1 files.good) ≡ files.slot files.one (bytes "01") files.line
   -- the definition's whole case, to the byte
   pub empty-answer : answerTo (empty 1) (with 1 files.empty) ≡ counts4 0 0 0 174
   pub empty-hgc : take 174 (bufferAfter (empty 1) (with 1 files.empty)) ≡ files.whole
@@ -93,11 +102,11 @@ pub record Single : Type 0 where
   pub bad-hgc : take 304 (bufferAfter (empty 1) (with 1 files.bad)) ≡ files.badHgc
   pub different : eqs files.whole files.badHgc ≡ false
   -- two imports, one after the other: both records are there
-  pub first-register : after (empty 2) (with 1 files.good) ≡ files.line ++ files.free
-  pub both-register : after (files.line ++ files.free) (with 1 files.next) ≡ files.line ++ files.other
-  pub both-different : eqs (files.line ++ files.free) (files.line ++ files.other) ≡ false
+  pub first-register : after (empty 2) (with 1 files.good) ≡ held₁
+  pub both-register : after held₁ (with 1 files.next) ≡ held₂
+  pub both-different : eqs held₁ held₂ ≡ false
   -- an account that has ended, sent twice: the slot holds its end, and the HGC has the Valid to that was sent
-  pub ended-register : after (empty 1) (with 1 files.twice) ≡ files.stored
+  pub ended-register : after (empty 1) (with 1 files.twice) ≡ files.slot files.one (bytes "01") files.stored
   pub ended-hgc : drop 110 (bufferAfter (empty 1) (with 1 files.twice)) ≡ files.answered ++ files.footer
 
 -- ---- seven files of two providers, on three slots
@@ -105,51 +114,55 @@ pub record Single : Type 0 where
 -- a faulty line and a right one with its PAN; a line of the other provider; a count that is wrong; the full list, in another order; a full
 -- list without a line; an account replaced; and one account too many
 abbrev pub file₁ : Handed
-file₁ = with 1 (files.file files.one files.double (files.wrong ++ files.line))
+file₁ = with 1 (files.file files.one (bytes "01") files.double (files.wrong ++ files.line))
 
 abbrev pub file₂ : Handed
-file₂ = with 1 (files.file files.another files.single files.foreign)
+file₂ = with 1 (files.file files.another (bytes "02") files.single files.foreign)
 
 abbrev pub file₃ : Handed
-file₃ = with 1 (files.file files.one files.double files.other)
+file₃ = with 1 (files.file files.one (bytes "03") files.double files.other)
 
 abbrev pub file₄ : Handed
-file₄ = with 2 (files.file files.one files.double (files.other ++ files.line))
+file₄ = with 2 (files.file files.one (bytes "04") files.double (files.other ++ files.line))
 
 abbrev pub file₅ : Handed
-file₅ = with 2 files.empty
+file₅ = with 2 (files.file files.one (bytes "05") files.none [])
 
 abbrev pub file₆ : Handed
-file₆ = with 1 (files.file files.one files.single files.replaced)
+file₆ = with 1 (files.file files.one (bytes "06") files.single files.replaced)
 
 abbrev pub file₇ : Handed
-file₇ = with 1 (files.file files.one files.single files.third)
+file₇ = with 1 (files.file files.one (bytes "07") files.single files.third)
+
+-- the other provider's slot throughout
+abbrev pub theirs : List ℕ
+theirs = files.slot files.another (bytes "02") files.foreign
 
 -- the registers between them
 abbrev pub register₁ : List ℕ
-register₁ = files.line ++ files.free ++ files.free
+register₁ = files.slot files.one (bytes "01") files.line ++ files.free ++ files.free
 
 abbrev pub register₂ : List ℕ
-register₂ = files.line ++ files.foreign ++ files.free
+register₂ = files.slot files.one (bytes "01") files.line ++ theirs ++ files.free
 
 abbrev pub register₄ : List ℕ
-register₄ = files.foreign ++ files.other ++ files.line
+register₄ = theirs ++ files.slot files.one (bytes "04") files.other ++ files.slot files.one (bytes "04") files.line
 
 abbrev pub register₆ : List ℕ
-register₆ = files.foreign ++ files.other ++ files.replaced
+register₆ = theirs ++ files.slot files.one (bytes "04") files.other ++ files.slot files.one (bytes "06") files.replaced
 
 -- the HGCs of those accepted
 abbrev pub hgc₁ : List ℕ
-hgc₁ = files.confirmed files.one files.single files.single (bytes "01") files.wrongAnswer
+hgc₁ = files.confirmed files.one (bytes "01") files.single files.single (bytes "01") files.wrongAnswer
 
 abbrev pub hgc₂ : List ℕ
-hgc₂ = files.confirmed files.another files.single files.none (bytes "00") []
+hgc₂ = files.confirmed files.another (bytes "02") files.single files.none (bytes "00") []
 
 abbrev pub hgc₄ : List ℕ
-hgc₄ = files.confirmed files.one files.double files.none (bytes "00") []
+hgc₄ = files.confirmed files.one (bytes "04") files.double files.none (bytes "00") []
 
 abbrev pub hgc₆ : List ℕ
-hgc₆ = files.confirmed files.one files.single files.none (bytes "00") []
+hgc₆ = files.confirmed files.one (bytes "06") files.single files.none (bytes "00") []
 
 pub record Seven : Type 0 where
   pub answer₁ : answerTo (empty 3) file₁ ≡ counts4 0 1 1 304
@@ -200,15 +213,19 @@ started = empty 3
 abbrev pub late : List Sent
 late = sentWith file₁ hgc₁ ∷ sentWith file₄ hgc₄ ∷ sentWith file₆ hgc₆ ∷ []
 
+-- what he holds then: an account that the full list touched last, and one that the last list replaced
+abbrev pub his₆ : List ℕ
+his₆ = files.slot files.one (bytes "04") files.other ++ files.slot files.one (bytes "06") files.replaced ++ files.free
+
 pub record Late : Type 0 where
-  pub copy-is : copyBy started late ≡ files.other ++ files.replaced ++ files.free
+  pub copy-is : copyBy started late ≡ his₆
   pub answers-are : answersBy started [] late ≡ counts3 0 1 0 ∷ counts3 0 2 0 ∷ counts3 0 1 1 ∷ []
   -- and the other's
-  pub their-copy : copyBy started (sentWith file₂ hgc₂ ∷ []) ≡ files.foreign ++ files.free ++ files.free
+  pub their-copy : copyBy started (sentWith file₂ hgc₂ ∷ []) ≡ theirs ++ files.free ++ files.free
   pub their-answers : answersBy started [] (sentWith file₂ hgc₂ ∷ []) ≡ counts3 0 1 0 ∷ []
 
 -- ---- computed, by every definition that the contracts reach
 
 pub computed : Single × (Seven × Late)
-unfolding takenNext earlier bump distinct all run leading choose first flat onto free pad frontOn front chop good bad pick eqs mem scan tally each some field listed filledTo filled numberAfter number decimal pan doubled addend luhnSum luhn allowed plate nationality separated separator rowHolds rowsHold sentBy rowBegins rowFits known someRowBegins someRowFits daysIn realTime realDate tariffHolds classHolds emissionHolds productHolds engineHolds validToHolds separatorHolds fieldsHold vehicleHolds limits meets meetsEach missing allows weightHolds L10 endOf recordOf L1 L2 L3 L4 L5 L6 L7 nationalityBlank L8 L9 rulesBy lineRules recordHolds starred slotsOf marked usedForm freeForm records usedPart inOrder holdsPan placeOf ofActor holdsForeign heldByAnother countOf widthOf linesIn lengthHolds body linesOf footer footerForm footerHolds framed framesHold sequence previousHolds headerHolds versionHolds incrementalOnly receiverHolds countHolds zeros outcome head answer said answers foot confirmation ownRules verdictRules verdict verdictsOf fileVerdicts taken rejected storedOn stored storedAll others replacedAll isFull holdings usedAfter modeHolds fullWith220001 addressed callStops fileStops formStops formStop judged following confirmed thin judgedStops stops importNumber unlessStopped refusal success registerAfter hgcAfter registerWritten hgcWritten importAnswer empty sift isTaken marksFrom marks left answersIn behindHead answersOf lengthForm headForm answerForm formHolds namesHold outcomeHolds reasonHolds textsOf copiesOf marksOf takenBy sameTexts copiesHold countsHold lineHolds takenHold saysHold linesHold receiptHolds stopCounts successCounts ownHolds copyStops copyFollowing receiptStops updateNumber updateAnswer copyWritten copyAfter count copyBy answersBy
+unfolding takenNext earlier bump distinct all run leading choose first flat onto free pad frontOn front chop good bad pick eqs mem scan tally each some field listed filledTo filled numberAfter number decimal pan doubled addend luhnSum luhn allowed plate nationality separated separator rowHolds rowsHold sentBy rowBegins rowFits known someRowBegins someRowFits daysIn realTime realDate tariffHolds classHolds emissionHolds productHolds engineHolds validToHolds separatorHolds fieldsHold vehicleHolds limits meets meetsEach missing allows weightHolds L10 endOf recordOf slotOf stamp stampHolds L1 L2 L3 L4 L5 L6 L7 nationalityBlank L8 L9 rulesBy lineRules recordHolds starred slotsOf marked usedForm freeForm records usedPart inOrder holdsPan placeOf ofActor holdsForeign heldByAnother countOf widthOf linesIn lengthHolds body linesOf footer footerForm footerHolds framed framesHold sequence previousHolds headerHolds versionHolds incrementalOnly receiverHolds countHolds zeros outcome head answer said answers foot confirmation ownRules verdictRules verdict verdictsOf fileVerdicts taken rejected storedOn stored storedAll others replacedAll isFull holdings usedAfter modeHolds fullWith220001 addressed callStops fileStops formStops formStop judged following confirmed thin judgedStops stops importNumber unlessStopped refusal success registerAfter hgcAfter registerWritten hgcWritten importAnswer empty sift isTaken marksFrom marks left answersIn behindHead answersOf lengthForm headForm answerForm formHolds namesHold outcomeHolds reasonHolds textsOf copiesOf marksOf takenBy sameTexts copiesHold countsHold lineHolds takenHold saysHold linesHold receiptHolds stopCounts successCounts ownHolds copyStops copyFollowing receiptStops updateNumber updateAnswer copyWritten copyAfter count copyBy answersBy
 computed = (record { good-answer = refl; good-register = refl; empty-answer = refl; empty-hgc = refl; bad-answer = refl; bad-hgc = refl; different = refl; first-register = refl; both-register = refl; both-different = refl; ended-register = refl; ended-hgc = refl }, (record { answer₁ = refl; after₁ = refl; hgc-is₁ = refl; answer₂ = refl; after₂ = refl; hgc-is₂ = refl; answer₃ = refl; after₃ = refl; answer₄ = refl; after₄ = refl; hgc-is₄ = refl; answer₅ = refl; after₅ = refl; answer₆ = refl; after₆ = refl; hgc-is₆ = refl; answer₇ = refl; after₇ = refl }, record { copy-is = refl; answers-are = refl; their-copy = refl; their-answers = refl }))

@@ -3,6 +3,7 @@ use mathlib.Core.List.{List, [], _++_}
 use Prim.Native.Nat.{ℕ}
 use lib.ListN.{replicate}
 use Rattle.theory.specs.Text.{bytes}
+use Rattle.sizes.specs.Sizes.{slotLength}
 use Rattle.texts.specs.Field.{lineEnd}
 
 -- two providers, and a row of each
@@ -24,7 +25,15 @@ buffer = replicate 304 238
 
 -- a free slot
 abbrev pub free : List ℕ
-free = replicate 128 0
+free = replicate slotLength 0
+
+-- the list sequence of a provider's list, by its number
+abbrev pub list : List ℕ → List ℕ → List ℕ
+list from number = bytes "HGV" ++ from ++ bytes "20250310" ++ number
+
+-- a used slot: a record, and the stamp of the list that touched it last
+abbrev pub slot : List ℕ → List ℕ → List ℕ → List ℕ
+slot from number r = r ++ list from number ++ reception ++ bytes "0000000"
 
 -- ---- lines
 
@@ -77,16 +86,16 @@ answered = endedText ++ bytes "01" ++ lineEnd
 abbrev pub footer : List ℕ
 footer = bytes "200000000000000000000000000000000000000000000000000000000000000" ++ lineEnd
 
--- an HGV of this sender, with this count and these lines
-abbrev pub file : List ℕ → List ℕ → List ℕ → List ℕ
-file from count lines =
-    bytes "0" ++ from ++ bytes "000002HGV" ++ from ++ bytes "2025031001HGV000000000000000000000000000000" ++ count
+-- an HGV of this sender, with this number, this count and these lines
+abbrev pub file : List ℕ → List ℕ → List ℕ → List ℕ → List ℕ
+file from number count lines =
+    bytes "0" ++ from ++ bytes "000002" ++ list from number ++ bytes "HGV000000000000000000000000000000" ++ count
     ++ bytes "20250310040000120001000000000000000000000000000" ++ lineEnd ++ lines ++ footer
 
 -- the HGC that answers such a file: taken and rejected, `00` or `01`, its lines
-abbrev pub confirmed : List ℕ → List ℕ → List ℕ → List ℕ → List ℕ → List ℕ
-confirmed from taken rejected outcome lines =
-    bytes "0000002" ++ from ++ bytes "HGV" ++ from ++ bytes "202503100120250310050000" ++ taken ++ rejected
+abbrev pub confirmed : List ℕ → List ℕ → List ℕ → List ℕ → List ℕ → List ℕ → List ℕ
+confirmed from number taken rejected outcome lines =
+    bytes "0000002" ++ from ++ list from number ++ reception ++ taken ++ rejected
     ++ bytes "1200010000000000000000000000000" ++ outcome ++ lineEnd ++ lines ++ footer
 
 abbrev pub none : List ℕ
@@ -99,7 +108,7 @@ abbrev pub double : List ℕ
 double = bytes "000000000000002"
 
 abbrev pub empty : List ℕ
-empty = file one none []
+empty = file one (bytes "01") none []
 
 -- the definition's whole case: the confirmation of a file without lines
 abbrev pub whole : List ℕ
@@ -108,16 +117,16 @@ whole =
     ++ footer
 
 abbrev pub good : List ℕ
-good = file one single line
+good = file one (bytes "01") single line
 
 abbrev pub bad : List ℕ
-bad = file one single wrong
+bad = file one (bytes "01") single wrong
 
 abbrev pub badHgc : List ℕ
-badHgc = confirmed one none single (bytes "01") wrongAnswer
+badHgc = confirmed one (bytes "01") none single (bytes "01") wrongAnswer
 
 abbrev pub next : List ℕ
-next = file one single other
+next = file one (bytes "02") single other
 
 abbrev pub twice : List ℕ
-twice = file one double (ended ++ ended)
+twice = file one (bytes "01") double (ended ++ ended)

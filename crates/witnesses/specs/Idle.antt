@@ -12,7 +12,7 @@ use Rattle.importer.specs.Promises.{Import}
 use Rattle.importer.specs.Handed.{Handed}
 use Rattle.demands.specs.History.{empty}
 use Rattle.witnesses.specs.Files as files
-use Rattle.witnesses.specs.Computed.{with, answerTo, after, bufferAfter, Single, computed}
+use Rattle.witnesses.specs.Computed.{with, answerTo, after, bufferAfter, held₁, held₂, Single, computed}
 
 -- what a build makes of an import: its answer, and both lent blocks after it
 pub record Made : Type 0 where
@@ -67,14 +67,14 @@ module _ (build : Build) (meets : Meets build) where
   -- it does not leave the register unwritten
   pub not-unwritten : ((f : Handed) (register : List ℕ) → build f register .register ≡ register) → ⊥
   not-unwritten stays =
-      differ (files.line ++ files.free) (files.line ++ files.other) (facts .both-different)
-      (sym (stays (with 1 files.next) (files.line ++ files.free)) ∙ register-is (with 1 files.next) (files.line ++ files.free) ∙ facts .both-register)
+      differ held₁ held₂ (facts .both-different)
+      (sym (stays (with 1 files.next) held₁) ∙ register-is (with 1 files.next) held₁ ∙ facts .both-register)
 
   -- it does not import the first file alone, and leave the register as it is from then on
   pub not-first-alone : ((n : ℕ) (f f′ : Handed) → build f′ (build f (empty n) .register) .register ≡ build f (empty n) .register) → ⊥
   not-first-alone first =
-      let once : build (with 1 files.good) (empty 2) .register ≡ files.line ++ files.free = register-is (with 1 files.good) (empty 2) ∙ facts .first-register in
-      let again : build (with 1 files.next) (files.line ++ files.free) .register ≡ files.line ++ files.free =
+      let once : build (with 1 files.good) (empty 2) .register ≡ held₁ = register-is (with 1 files.good) (empty 2) ∙ facts .first-register in
+      let again : build (with 1 files.next) held₁ .register ≡ held₁ =
       rw (← once) (first 2 (with 1 files.good) (with 1 files.next)) in
-      differ (files.line ++ files.free) (files.line ++ files.other) (facts .both-different)
-      (sym again ∙ register-is (with 1 files.next) (files.line ++ files.free) ∙ facts .both-register)
+      differ held₁ held₂ (facts .both-different)
+      (sym again ∙ register-is (with 1 files.next) held₁ ∙ facts .both-register)

@@ -20,7 +20,7 @@ use Rattle.importer.specs.Handed.{Handed}
 use Rattle.demands.specs.History.{apply, Event, acceptance, concerns, his, entries, empty, _▸_, Ours, start, accepted, refused, Replay, applied}
 use Rattle.demands.specs.Demand3.{copy-is}
 use Rattle.witnesses.specs.Files as files
-use Rattle.witnesses.specs.Computed.{answerTo, after, bufferAfter, counts4, file₁, file₂, file₃, file₄, file₅, file₆, file₇, register₁, register₂, register₄, register₆, hgc₁, hgc₂, hgc₄, hgc₆, Seven, Late, sentWith, copyBy, answersBy, counts3, computed}
+use Rattle.witnesses.specs.Computed.{answerTo, after, bufferAfter, counts4, file₁, file₂, file₃, file₄, file₅, file₆, file₇, theirs, register₁, register₂, register₄, register₆, hgc₁, hgc₂, hgc₄, hgc₆, Seven, Late, sentWith, his₆, copyBy, answersBy, counts3, computed}
 
 seven : Seven
 seven = computed .1 .0
@@ -66,7 +66,7 @@ unfolding his sift onto concerns acceptance eqs field
 theirs-are = rw (seven .hgc-is₂)
 
 -- his side, as it was computed
-pub his-copy : Replay 3 (entries (his files.one events)) (files.other ++ files.replaced ++ files.free) (counts3 0 1 0 ∷ counts3 0 2 0 ∷ counts3 0 1 1 ∷ [])
+pub his-copy : Replay 3 (entries (his files.one events)) his₆ (counts3 0 1 0 ∷ counts3 0 2 0 ∷ counts3 0 1 1 ∷ [])
 unfolding Update copyBy answersBy
 his-copy =
     let l : Late = computed .1 .1 in
@@ -74,12 +74,12 @@ his-copy =
     (applied (applied (applied start (sentWith file₁ hgc₁) _ _ (refl, refl)) (sentWith file₄ hgc₄) _ _ (refl, refl)) (sentWith file₆ hgc₆) _ _ (refl, refl))
 
 -- and the other's
-pub their-copy : Replay 3 (entries (his files.another events)) (files.foreign ++ files.free ++ files.free) (counts3 0 1 0 ∷ [])
+pub their-copy : Replay 3 (entries (his files.another events)) (theirs ++ files.free ++ files.free) (counts3 0 1 0 ∷ [])
 unfolding Update copyBy answersBy
 their-copy =
     let l : Late = computed .1 .1 in
     rw (theirs-are, ← l .their-copy, ← l .their-answers) (applied start (sentWith file₂ hgc₂) _ _ (refl, refl))
 
 -- it is what demand 3 says
-pub both-sides : files.other ++ files.replaced ++ files.free ≡ flat (pad slotLength 3 (own files.one (records register₆)))
+pub both-sides : his₆ ≡ flat (pad slotLength 3 (own files.one (records register₆)))
 both-sides = copy-is seven-files files.one his-copy
