@@ -1,38 +1,57 @@
--- Which file touched an account: the stamps after an accepted import, told by the verdicts of the file's lines. Assumes nothing.
-use mathlib.Core.Path.{_≡_, sym, _∙_}
-use mathlib.Core.Bool.{true, false, true≢false}
-use mathlib.Core.List.{List, [], _∷_, map}
-use Prim.Native.Nat.{ℕ}
+-- Which file touched an account: the stamps after an accepted import or update, and what a lookup hands back. Assumes nothing.
+use mathlib.Core.Path.{_≡_, refl, sym, _∙_}
+use mathlib.Core.Bool.{Bool, true, false, not}
+use mathlib.Core.List.{List, map}
+use Prim.Native.Nat.{ℕ, _≤_}
 use lib.ListN.{length}
+use borrow.Author.Tests.{not-false, ltb-false}
+use Rattle.theory.specs.First.{None, none, more, first}
+use Rattle.theory.specs.laws.First.{first-clear, numbered}
+use Rattle.theory.specs.laws.Stopped.{at-success, by-neither}
 use Rattle.theory.specs.Same.{mem}
-use Rattle.theory.specs.Each.{Each, none, more}
-use Rattle.theory.specs.laws.Each.{each-map, each-of-map, each-from}
+use Rattle.theory.specs.Each.{Each}
+use Rattle.theory.specs.laws.Each.{each-map}
 use Rattle.theory.specs.Pick.{good, pick}
-use Rattle.theory.specs.laws.Distinct.{mem-at}
+use Rattle.theory.specs.laws.Parts.{length-part}
+use Rattle.times.specs.Time.{realTime}
 use Rattle.times.specs.laws.Moment.{real-length}
 use Rattle.columns.specs.Columns.{actor, panOf}
+use Rattle.sizes.specs.Sizes.{slotLength}
+use Rattle.sequences.specs.Sequence.{sequence}
 use Rattle.sequences.specs.laws.Length.{sequence-length}
-use Rattle.stamps.specs.Stamp.{stampIn, listIn, receptionIn, stampHolds}
+use Rattle.stamps.specs.Stamp.{stampIn, listIn, receptionIn, stamp, stampHolds}
 use Rattle.stamps.specs.laws.Stamp.{stamp-list, stamp-reception}
 use Rattle.records.specs.Slot.{slotOf}
-use Rattle.records.specs.laws.Stamped.{slot-stamp}
 use Rattle.hgv.specs.Layout.{linesOf}
 use Rattle.header.specs.Header.{sender, listSequence}
 use Rattle.header.specs.laws.Header.{header-list}
 use Rattle.slots.specs.Slots.{slotsIn, records}
 use Rattle.register.specs.Register.{inOrder}
-use Rattle.register.specs.laws.Register.{Ordered, ordered, used-stamped}
+use Rattle.register.specs.laws.Register.{ordered, used-stamped}
 use Rattle.verdicts.specs.Verdict.{taken}
-use Rattle.upkeep.specs.laws.Makes.{made-pans}
-use Rattle.applying.specs.laws.Touched.{each-applied}
+use Rattle.applying.specs.laws.Touched as applying
 use Rattle.importer.specs.declared.Imported.{Imported}
 use Rattle.importer.specs.Handed.{Handed}
 use Rattle.importer.specs.Import.{judged, fileStamp, following, importNumber}
 use Rattle.importer.specs.Promises.{Import}
 use Rattle.importer.specs.laws.Numbers.{Formed, accepted-clear}
-use Rattle.importer.specs.laws.Accepted.{lines-storable, lines-made}
+use Rattle.importer.specs.laws.Accepted.{lines-storable}
 use Rattle.importer.specs.laws.Follows.{fit}
+use Rattle.lookups.specs.Lookup.{panNumber, panPlace, panSlot, plateNumber, platePlace, plateSlot}
+use Rattle.lookups.specs.Promises.{ByPan, ByPlate}
+use Rattle.lookups.specs.laws.Found.{pan-fits, pan-part, plate-fits, plate-part}
+use Rattle.applying.specs.Fit.{Fit}
+use Rattle.applying.specs.laws.Follows.{follows}
+use Rattle.receipts.specs.Receipt.{listOf, receptionOf, takenBy, receiptHolds}
+use Rattle.provider.specs.declared.Counted.{Counted}
+use Rattle.provider.specs.laws.Held.{received-held, list-held, taken-storable}
+use Rattle.updating.specs.Sent.{Sent}
+use Rattle.updating.specs.Update.{copyStops, sentStamp, copyFollowing, receiptStops, updateNumber, copyWritten, copyAfter}
+use Rattle.updating.specs.Promises.{Update}
+use Rattle.updating.specs.laws.Numbers.{Sound, copy-sound}
+use Rattle.updating.specs.laws.Fits.{taken-fit}
 use Rattle.demands.specs.Verdicts.{Verdicts}
+use Rattle.demands.specs.laws.Answered.{update-is}
 use Rattle.demands.specs.laws.Imports.{number-0}
 use Rattle.demands.specs.laws.Judging.{judged-is}
 use Rattle.demands.specs.laws.Exact.{holds}
@@ -41,12 +60,33 @@ use Rattle.demands.specs.laws.Exact.{holds}
 pub each-stamped : (b : List ℕ) → inOrder b ≡ true → Each (λ x. stampHolds (actor x) (stampIn x) ≡ true) (records b)
 each-stamped b h = each-map (λ x u. used-stamped x u) (ordered b h .used)
 
--- what each key has, each with such a key has
-each-keyed : (q : List ℕ → Type 0) (key : List ℕ → List ℕ) (xs : List (List ℕ)) → Each q (map key xs) → Each (λ x. q (key x)) xs
-each-keyed q key [] none = none
-each-keyed q key (x ∷ xs) (more h hs) = more h (each-keyed q key xs hs)
+-- ---- a lookup
 
-module _ (f : Handed) (register : List ℕ) (r : Imported) (b g : List ℕ) (o : Import f register r b g) (z : r .number ≡ 0) where
+module _ (b part : List ℕ) (number : ℕ) where
+  pub pan-long : (key : List ℕ) → ByPan b key part number → number ≡ 0 → length part ≡ slotLength
+  pan-long key (n, p) z =
+      let e : panNumber b key ≡ 0 = sym n ∙ z in
+      rw (p, ← pan-part b key e) (length-part slotLength (panPlace b key) b (pan-fits b key e))
+
+  pub plate-long : (p n t : List ℕ) → ByPlate b p n t part number → number ≡ 0 → length part ≡ slotLength
+  plate-long p n t (m, q) z =
+      let e : plateNumber b p n t ≡ 0 = sym m ∙ z in
+      rw (q, ← plate-part b p n t e) (length-part slotLength (platePlace b p n t) b (plate-fits b p n t e))
+
+-- ---- an import
+
+-- x carries this list and this reception
+abbrev pub Carries : List ℕ → List ℕ → List ℕ → Type 0
+Carries list reception x = (listIn (stampIn x) ≡ list) × (receptionIn (stampIn x) ≡ reception)
+
+carries : (who list reception : List ℕ) → sequence who list ≡ true → realTime reception ≡ true → (x : List ℕ) → stampIn x ≡ stamp list reception → Carries list reception x
+carries who list reception s t x k =
+    let n : length list ≡ 19 = sequence-length who list s in
+    let m : length reception ≡ 14 = real-length reception t in
+    rw k (stamp-list list reception n m, stamp-reception list reception n m)
+
+module _ (f : Handed) (register : List ℕ) (r : Imported) (b g : List ℕ) (o : Import f register r b g) (z : r .number ≡ 0)
+    (vs : List ℕ) (v : Verdicts (f .rows) (sender (f .hgv)) (records register) (linesOf (f .hgv)) vs) where
   e : importNumber f register ≡ 0
   e = number-0 f register r b g o z
 
@@ -56,57 +96,64 @@ module _ (f : Handed) (register : List ℕ) (r : Imported) (b g : List ℕ) (o :
   abbrev ls : List (List ℕ)
   ls = taken (judged register (f .rows) (f .hgv)) (f .hgv)
 
-  abbrev xs : List (List ℕ)
-  xs = map (slotOf (fileStamp f)) ls
+  lines-are : ls ≡ pick good vs (linesOf (f .hgv))
+  unfolding taken
+  lines-are = rw (judged-is register (f .rows) (f .hgv) vs v)
 
-  -- the PANs that a taken line names
-  abbrev pans : List (List ℕ)
-  pans = map panOf ls
-
-  -- whatever each taken line's slot has, and each record held under another PAN, each record has
-  each-following : (q : List ℕ → Type 0) → Each q xs → Each (λ y. mem (panOf y) pans ≡ false → q y) (records register) → Each q (records b)
+  pub touched : Each (λ x. mem (panOf x) (map panOf (pick good vs (linesOf (f .hgv)))) ≡ true → Carries (listSequence (f .hgv)) (f .reception) x) (records b)
   unfolding following
-  each-following q ks hs =
-      rw (holds f register r b g o z .held)
-      (each-applied (f .mode) (sender (f .hgv)) (slotOf (fileStamp f)) (slotsIn register) (records register) ls (fit f register e) (ordered register (c .ordered) .apart) q ks hs)
+  touched =
+      rw (← lines-are, holds f register r b g o z .held)
+      (each-map (λ x k t. carries (sender (f .hgv)) (listSequence (f .hgv)) (f .reception) (header-list (f .hgv) (c .headed)) (c .received) x (k t))
+      (applying.each-stamped (f .mode) (sender (f .hgv)) (fileStamp f) (slotsIn register) (records register) ls (fit f register e) (ordered register (c .ordered) .apart) (lines-storable f register c)))
 
-  each-new : Each (λ x. stampIn x ≡ fileStamp f) xs
-  each-new = each-of-map (slotOf (fileStamp f)) ls (each-map (λ l k. slot-stamp (fileStamp f) l k) (lines-storable f register c))
+  pub untouched : Each (λ x. mem (panOf x) (map panOf (pick good vs (linesOf (f .hgv)))) ≡ false → mem x (records register) ≡ true) (records b)
+  unfolding following
+  untouched =
+      rw (← lines-are, holds f register r b g o z .held)
+      (applying.untouched (f .mode) (sender (f .hgv)) (slotOf (fileStamp f)) (slotsIn register) (records register) ls (fit f register e) (ordered register (c .ordered) .apart))
 
-  each-named : Each (λ x. mem (panOf x) pans ≡ true) xs
-  each-named =
-      each-keyed (λ p. mem p pans ≡ true) panOf xs
-      (rw (made-pans (slotOf (fileStamp f)) (lines-made f register c)) (each-from pans [] (mem-at pans)))
+-- ---- an update
 
-  abbrev R : List (List ℕ)
-  R = records register
+module _ (s : Sent) (copy : List ℕ) (u : Counted) (c : List ℕ) (o : Update s copy u c) (z : u .number ≡ 0) where
+  n : updateNumber s copy ≡ 0
+  n = sym (update-is s copy u c o) ∙ z
 
-  touched-all : Each (λ x. mem (panOf x) pans ≡ true → stampIn x ≡ fileStamp f) (records b)
-  touched-all =
-      each-following (λ x. mem (panOf x) pans ≡ true → stampIn x ≡ fileStamp f) (each-map (λ x k _. k) each-new)
-      (each-from R [] (λ i l n t. absurd (true≢false (sym t ∙ n))))
+  neither : (first (copyStops (s .mode) copy (s .hgv)) ≡ 0) × (first (receiptStops s copy) ≡ 0)
+  unfolding updateNumber copyStops numbered
+  neither = by-neither (copyStops (s .mode) copy (s .hgv)) (receiptStops s copy) refl n
 
-  untouched-all : Each (λ x. mem (panOf x) pans ≡ false → mem x R ≡ true) (records b)
-  untouched-all =
-      each-following (λ x. mem (panOf x) pans ≡ false → mem x R ≡ true) (each-map (λ x t n. absurd (true≢false (sym t ∙ n))) each-named)
-      (each-from R [] (λ i l _ _. mem-at R i l))
+  sound : Sound copy (s .hgv)
+  sound = copy-sound (s .mode) copy (s .hgv) (neither .0)
 
-  -- the stamp's fields
-  carries : (x : List ℕ) → stampIn x ≡ fileStamp f → (listIn (stampIn x) ≡ listSequence (f .hgv)) × (receptionIn (stampIn x) ≡ f .reception)
-  carries x k =
-      let n : length (listSequence (f .hgv)) ≡ 19 = sequence-length (sender (f .hgv)) (listSequence (f .hgv)) (header-list (f .hgv) (c .headed)) in
-      let m : length (f .reception) ≡ 14 = real-length (f .reception) (c .received) in
-      rw k (stamp-list (listSequence (f .hgv)) (f .reception) n m, stamp-reception (listSequence (f .hgv)) (f .reception) n m)
+  held : (receiptHolds (s .hgv) (s .hgc) ≡ true) × (length (copyFollowing s copy) ≤ slotsIn copy)
+  unfolding receiptStops numbered
+  held = go (first-clear (receiptStops s copy) refl (neither .1))
+    where
+      go : None (receiptStops s copy) → (receiptHolds (s .hgv) (s .hgc) ≡ true) × (length (copyFollowing s copy) ≤ slotsIn copy)
+      go (more a (more b none)) = (not-false (receiptHolds (s .hgv) (s .hgc)) a, ltb-false (slotsIn copy) (length (copyFollowing s copy)) b)
 
-  -- ---- by the verdicts of the lines
+  abbrev ms : List (List ℕ)
+  ms = takenBy (s .hgv) (s .hgc)
 
-  module _ (vs : List ℕ) (v : Verdicts (f .rows) (sender (f .hgv)) R (linesOf (f .hgv)) vs) where
-    lines-are : ls ≡ pick good vs (linesOf (f .hgv))
-    unfolding taken
-    lines-are = rw (judged-is register (f .rows) (f .hgv) vs v)
+  fits : Fit (s .mode) (sender (s .hgv)) (slotOf (sentStamp s)) (slotsIn copy) (records copy) ms
+  fits = taken-fit (s .hgv) (s .hgc) (sound .headed) (held .0) (s .mode) copy (sound .own) (held .1)
 
-    pub touched : Each (λ x. mem (panOf x) (map panOf (pick good vs (linesOf (f .hgv)))) ≡ true → (listIn (stampIn x) ≡ listSequence (f .hgv)) × (receptionIn (stampIn x) ≡ f .reception)) (records b)
-    touched = rw (← lines-are) (each-map (λ x k t. carries x (k t)) touched-all)
+  follows-held : records c ≡ copyFollowing s copy
+  unfolding Update copyAfter copyWritten copyFollowing
+  follows-held =
+      rw (o .1, at-success (updateNumber s copy) (copyWritten s copy) copy n)
+      (follows (s .mode) (sender (s .hgv)) (slotOf (sentStamp s)) copy ms (sound .ordered) fits .held)
 
-    pub untouched : Each (λ x. mem (panOf x) (map panOf (pick good vs (linesOf (f .hgv)))) ≡ false → mem x R ≡ true) (records b)
-    untouched = rw (← lines-are) untouched-all
+  pub update-touched : Each (λ x. mem (panOf x) (map panOf ms) ≡ true → Carries (listOf (s .hgc)) (receptionOf (s .hgc)) x) (records c)
+  unfolding copyFollowing
+  update-touched =
+      rw follows-held
+      (each-map (λ x k t. carries (sender (s .hgv)) (listOf (s .hgc)) (receptionOf (s .hgc)) (rw (list-held (s .hgv) (s .hgc) (held .0)) (header-list (s .hgv) (sound .headed))) (received-held (s .hgv) (s .hgc) (held .0)) x (k t))
+      (applying.each-stamped (s .mode) (sender (s .hgv)) (sentStamp s) (slotsIn copy) (records copy) ms fits (ordered copy (sound .ordered) .apart) (taken-storable (s .hgv) (s .hgc) (held .0) (sound .headed))))
+
+  pub update-untouched : Each (λ x. mem (panOf x) (map panOf ms) ≡ false → mem x (records copy) ≡ true) (records c)
+  unfolding copyFollowing
+  update-untouched =
+      rw follows-held
+      (applying.untouched (s .mode) (sender (s .hgv)) (slotOf (sentStamp s)) (slotsIn copy) (records copy) ms fits (ordered copy (sound .ordered) .apart))
