@@ -1,6 +1,6 @@
 -- Which file touched an account: the stamps after an accepted import or update, and what a lookup hands back. Assumes nothing.
 use mathlib.Core.Path.{_≡_, refl, sym, _∙_}
-use mathlib.Core.Bool.{Bool, true, false, not}
+use mathlib.Core.Bool.{true, false}
 use mathlib.Core.List.{List, map}
 use Prim.Native.Nat.{ℕ, _≤_}
 use lib.ListN.{length}
@@ -37,7 +37,7 @@ use Rattle.importer.specs.Promises.{Import}
 use Rattle.importer.specs.laws.Numbers.{Formed, accepted-clear}
 use Rattle.importer.specs.laws.Accepted.{lines-storable}
 use Rattle.importer.specs.laws.Follows.{fit}
-use Rattle.lookups.specs.Lookup.{panNumber, panPlace, panSlot, plateNumber, platePlace, plateSlot}
+use Rattle.lookups.specs.Lookup.{panNumber, panPlace, plateNumber, platePlace}
 use Rattle.lookups.specs.Promises.{ByPan, ByPlate}
 use Rattle.lookups.specs.laws.Found.{pan-fits, pan-part, plate-fits, plate-part}
 use Rattle.applying.specs.Fit.{Fit}

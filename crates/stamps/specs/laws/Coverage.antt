@@ -1,6 +1,6 @@
 -- Each position of a stamp is fixed by a part of its form, so those of a slot are behind its record. Assumes nothing.
 use mathlib.Core.Path.{_≡_, refl}
-use mathlib.Core.Bool.{Bool, true}
+use mathlib.Core.Bool.{true}
 use mathlib.Core.List.{List, [], _∷_, _++_, map}
 use Prim.Native.Nat.{ℕ, _-_, _≤_}
 use native.Mathlib.Omega.{arith}
@@ -10,7 +10,6 @@ use Rattle.theory.specs.laws.Each.{each-append}
 use Rattle.theory.specs.Every.{run}
 use Rattle.theory.specs.laws.Every.{all-run}
 use Rattle.sizes.specs.Sizes.{stampLength, timeLength}
-use Rattle.texts.specs.Field.{field}
 use Rattle.fields.specs.Field.{digit, zeroDigit}
 use Rattle.fields.specs.laws.Spans.{Span, span, cover, admitted, Held, moved, each-moved, covered-at}
 use Rattle.times.specs.laws.Moment.{real-length, real-all}
