@@ -3,11 +3,12 @@ ghost use Prim.Native.Nat.{_≤_};
 ghost use lib.ListN.{length};
 use crate::given::at_most;
 use crate::given::number_in;
+use vectors::SAMPLES;
 
 // One more than a file may have.
 const COPIES: usize = 8193;
 
-fn write_copies(f: &[u8], samples: &[u8; 33280], accounts: &mut [u8]) -> u64
+fn write_copies(f: &[u8], samples: &[u8; SAMPLES], accounts: &mut [u8]) -> u64
     requires { ⌜ 819300 ≤ length (now accounts) ⌝ }
 {
     let mut given = [0u8; 69];
@@ -25,11 +26,11 @@ fn write_copies(f: &[u8], samples: &[u8; 33280], accounts: &mut [u8]) -> u64
     written.number
 }
 
-fn with_room(f: &[u8], samples: &[u8; 33280], accounts: &mut [u8; 819300]) -> u64 {
+fn with_room(f: &[u8], samples: &[u8; SAMPLES], accounts: &mut [u8; 819300]) -> u64 {
     write_copies(f, samples, accounts)
 }
 
-pub fn of_copies(f: &[u8], samples: &[u8; 33280]) -> u64 {
+pub fn of_copies(f: &[u8], samples: &[u8; SAMPLES]) -> u64 {
     let mut accounts = [0u8; 819300];
     with_room(f, samples, &mut accounts)
 }

@@ -1,7 +1,8 @@
 // What is asked, by its tag.
 use crate::tell::told;
+use vectors::SAMPLES;
 
-fn of_list(tag: &[u8], f: &[u8], samples: &[u8; 33280]) -> u64 {
+fn of_list(tag: &[u8], f: &[u8], samples: &[u8; SAMPLES]) -> u64 {
     if texts::listed(tag, 8, b"write   account written kept    answered") {
         return crate::given::of_writer(tag, f, samples);
     }
@@ -11,7 +12,7 @@ fn of_list(tag: &[u8], f: &[u8], samples: &[u8; 33280]) -> u64 {
     crate::line::of_line(tag, f, samples)
 }
 
-fn of_time(tag: &[u8], f: &[u8], samples: &[u8; 33280]) -> u64 {
+fn of_time(tag: &[u8], f: &[u8], samples: &[u8; SAMPLES]) -> u64 {
     if texts::same(tag, b"time    ") {
         return told(times::is_real_time(f));
     }
@@ -21,7 +22,7 @@ fn of_time(tag: &[u8], f: &[u8], samples: &[u8; 33280]) -> u64 {
     of_list(tag, f, samples)
 }
 
-fn of_plate(tag: &[u8], f: &[u8], samples: &[u8; 33280]) -> u64 {
+fn of_plate(tag: &[u8], f: &[u8], samples: &[u8; SAMPLES]) -> u64 {
     if texts::same(tag, b"plate   ") {
         return told(plates::is_plate(f));
     }
@@ -35,7 +36,7 @@ fn of_plate(tag: &[u8], f: &[u8], samples: &[u8; 33280]) -> u64 {
     of_time(tag, f, samples)
 }
 
-pub fn answer(tag: &[u8], f: &[u8], samples: &[u8; 33280]) -> u64 {
+pub fn answer(tag: &[u8], f: &[u8], samples: &[u8; SAMPLES]) -> u64 {
     if texts::same(tag, b"luhn    ") {
         return told(pans::is_luhn(f));
     }

@@ -1,5 +1,6 @@
 // An HGV of one line with one place changed.
 use crate::tell::told;
+use vectors::SAMPLES;
 
 // Has a block of so many bytes the length of a file.
 fn has_length(n: usize) -> bool {
@@ -43,7 +44,7 @@ fn of_header(tag: &[u8], file: &[u8], f: &[u8]) -> u64 {
     of_body(tag, file, f)
 }
 
-pub fn of_file(tag: &[u8], f: &[u8], samples: &[u8; 33280]) -> u64 {
+pub fn of_file(tag: &[u8], f: &[u8], samples: &[u8; SAMPLES]) -> u64 {
     let mut file = [0u8; 320];
     vectors::lay(&mut file, 1, 128, samples, b"1X");
     vectors::lay(&mut file, 257, 64, samples, b"T");

@@ -4,6 +4,7 @@
 ghost use Prim.Native.Nat.{_≤_};
 ghost use lib.ListN.{length};
 use crate::tell::told;
+use vectors::SAMPLES;
 use writer::Written;
 
 // The accounts, and the buffer.
@@ -56,7 +57,7 @@ pub fn write(given: &[u8], rows: &[u8], accounts: &[u8], out: &mut [u8]) -> Writ
 }
 
 // Is the buffer the file of two lines in front of what was there, with one place changed.
-fn is_file(out: &[u8], f: &[u8], samples: &[u8; 33280]) -> bool {
+fn is_file(out: &[u8], f: &[u8], samples: &[u8; SAMPLES]) -> bool {
     let mut file = [UNWRITTEN; ROOM];
     vectors::lay(&mut file, 1, 128, samples, b"2XY");
     vectors::lay(&mut file, 385, 64, samples, b"T");
@@ -71,7 +72,7 @@ fn is_kept(out: &[u8]) -> bool {
     texts::same(out, &before[0..n])
 }
 
-fn answer(tag: &[u8], written: Written, out: &[u8], f: &[u8], samples: &[u8; 33280]) -> u64 {
+fn answer(tag: &[u8], written: Written, out: &[u8], f: &[u8], samples: &[u8; SAMPLES]) -> u64 {
     if texts::same(tag, b"written ") {
         return told(is_file(out, f, samples));
     }
@@ -91,7 +92,7 @@ fn write_into(
     accounts: &[u8],
     out: &mut [u8],
     f: &[u8],
-    samples: &[u8; 33280],
+    samples: &[u8; SAMPLES],
 ) -> u64 {
     let written = write(given, rows, accounts, out);
     answer(tag, written, out, f, samples)
@@ -103,14 +104,14 @@ fn of_given(
     rows: &[u8],
     accounts: &[u8],
     f: &[u8],
-    samples: &[u8; 33280],
+    samples: &[u8; SAMPLES],
 ) -> u64 {
     let mut out = [UNWRITTEN; ROOM];
     let room = at_most(number_in(texts::field(given, 57, 60)) as usize, ROOM);
     write_into(tag, given, rows, accounts, &mut out[0..room], f, samples)
 }
 
-pub fn of_writer(tag: &[u8], f: &[u8], samples: &[u8; 33280]) -> u64 {
+pub fn of_writer(tag: &[u8], f: &[u8], samples: &[u8; SAMPLES]) -> u64 {
     let mut given = [0u8; 69];
     vectors::lay(&mut given, 1, 69, samples, b"G");
     vectors::change(&mut given, asked(tag, b"write   kept    answered", f));

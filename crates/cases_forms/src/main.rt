@@ -5,6 +5,7 @@
 // byte.
 use libc::STDIN_FILENO;
 use libc::STDOUT_FILENO;
+use vectors::SAMPLES;
 
 mod copies;
 mod each;
@@ -14,7 +15,7 @@ mod given;
 mod line;
 mod tell;
 
-fn answer(line: &mut [u8], samples: &mut [u8; 33280]) {
+fn answer(line: &mut [u8], samples: &mut [u8; SAMPLES]) {
     if texts::same(texts::field(line, 1, 1), b"#") {
         return;
     }
@@ -35,7 +36,7 @@ fn answer(line: &mut [u8], samples: &mut [u8; 33280]) {
 }
 
 // A line is told as it was read, and its marks are turned before it is answered.
-fn case(line: &mut [u8], samples: &mut [u8; 33280]) {
+fn case(line: &mut [u8], samples: &mut [u8; SAMPLES]) {
     io::write_all(STDOUT_FILENO, line);
     vectors::mark(line);
     answer(line, samples);
@@ -43,7 +44,7 @@ fn case(line: &mut [u8], samples: &mut [u8; 33280]) {
 }
 
 fn each_case(text: &mut [u8]) {
-    let mut samples = [0u8; 33280];
+    let mut samples = [0u8; SAMPLES];
     let mut i: usize = 0;
     while i < text.len() {
         let end = i + vectors::before(&text[i..], 10);

@@ -1,14 +1,21 @@
 // Registers and files, laid out by their letters.
-ghost use Prim.Native.Nat.{_≤_};
+ghost use Prim.Native.Nat.{_*_, _≤_};
 ghost use lib.ListN.{length};
+ghost use Rattle.sizes.specs.Sizes.{slotLength};
+use sizes::FOOTER;
+use sizes::HGC_HEADER;
+use sizes::LINE;
+use sizes::SLOT;
+use vectors::SAMPLES;
 
-// A slot of a register, the header and a line of an HGV.
-pub const PART: usize = 128;
+// The most letters of a register, and of an HGV: its header and lines.
+const LETTERS: usize = 5;
 
-// The header of an HGC, and an answer in it.
-const HEAD: usize = 110;
+// The bytes of so many slots.
+pub const REGISTER: usize = LETTERS * SLOT;
 
-const ANSWER: usize = 130;
+// An answer in an HGC.
+const ANSWER: usize = LINE + sizes::REASON;
 
 // The number that digits write, 15 of them at most.
 pub fn number_in(f: &[u8]) -> usize {
@@ -24,45 +31,47 @@ pub fn at_most(n: usize, most: usize) -> usize
     most
 }
 
-// The part of each letter before the first -, one behind the other, 5 of them at most; how many bytes they have.
-pub fn lay_parts(to: &mut [u8], samples: &[u8; 33280], letters: &[u8]) -> usize
-    requires { ⌜ 640 ≤ length (now to) ⌝ }
-    ensures { λ r. ⌜ r ≤ 640 ⌝ }
+// The slot of each letter before the first -, one behind the other; how many bytes they have.
+pub fn lay_slots(to: &mut [u8], samples: &[u8; SAMPLES], letters: &[u8]) -> usize
+    requires { ⌜ 5 * slotLength ≤ length (now to) ⌝ }
+    ensures { λ r. ⌜ r ≤ 5 * slotLength ⌝ }
 {
-    let k = at_most(vectors::before(letters, b'-'), 5);
-    vectors::lay(to, 1, PART, samples, &letters[0..k]);
-    k * PART
+    let k = at_most(vectors::before(letters, b'-'), LETTERS);
+    vectors::lay(to, 1, SLOT, samples, &letters[0..k]);
+    k * SLOT
 }
 
-// Those parts, and a footer; how many bytes they have.
-pub fn lay_file(to: &mut [u8], samples: &[u8; 33280], letters: &[u8]) -> usize
+// The header and the lines of an HGV likewise, and a footer; how many bytes they have.
+pub fn lay_file(to: &mut [u8], samples: &[u8; SAMPLES], letters: &[u8]) -> usize
     requires { ⌜ 704 ≤ length (now to) ⌝ }
     ensures { λ r. ⌜ 1 ≤ r ⌝ }
 {
-    let end = lay_parts(to, samples, letters);
-    vectors::lay(to, end + 1, 64, samples, b"T");
-    end + 64
+    let k = at_most(vectors::before(letters, b'-'), LETTERS);
+    vectors::lay(to, 1, LINE, samples, &letters[0..k]);
+    vectors::lay(to, k * LINE + 1, FOOTER, samples, b"T");
+    k * LINE + FOOTER
 }
 
 // The header of an HGC by its letter, an answer for each letter behind it before the first -, and a footer; how many bytes.
-pub fn lay_hgc(to: &mut [u8], samples: &[u8; 33280], letters: &[u8]) -> usize
+pub fn lay_hgc(to: &mut [u8], samples: &[u8; SAMPLES], letters: &[u8]) -> usize
     requires { ⌜ 704 ≤ length (now to) ⌝ }
     ensures { λ r. ⌜ 1 ≤ r ⌝ }
 {
     let answers = texts::field(letters, 2, 5);
     let k = at_most(vectors::before(answers, b'-'), 4);
     let head = at_most(vectors::before(letters, b'-'), 1);
-    vectors::lay(to, 1, HEAD, samples, &letters[0..head]);
-    vectors::lay(to, 111, ANSWER, samples, &answers[0..k]);
-    vectors::lay(to, 111 + k * ANSWER, 64, samples, b"T");
-    174 + k * ANSWER
+    vectors::lay(to, 1, HGC_HEADER, samples, &letters[0..head]);
+    vectors::lay(to, HGC_HEADER + 1, ANSWER, samples, &answers[0..k]);
+    let end = HGC_HEADER + k * ANSWER;
+    vectors::lay(to, end + 1, FOOTER, samples, b"T");
+    end + FOOTER
 }
 
-// Is the block as its letters say.
-pub fn is_laid(block: &[u8], samples: &[u8; 33280], letters: &[u8]) -> bool {
-    let mut laid = [0u8; 640];
-    let end = lay_parts(&mut laid, samples, letters);
-    texts::same(block, &laid[0..end])
+// Is the register as its letters say.
+pub fn is_laid(register: &[u8], samples: &[u8; SAMPLES], letters: &[u8]) -> bool {
+    let mut laid = [0u8; REGISTER];
+    let end = lay_slots(&mut laid, samples, letters);
+    texts::same(register, &laid[0..end])
 }
 
 // The length that is asked for, or where that is 0, the file's own.

@@ -3,6 +3,7 @@
 ghost use Prim.Native.Nat.{_+_, _≤_};
 ghost use lib.ListN.{length};
 use libc::STDOUT_FILENO;
+use vectors::SAMPLES;
 
 // No vector's answer.
 const NONE: u64 = 1000;
@@ -57,7 +58,7 @@ fn of_value(
     end: usize,
     kind: u8,
     v: usize,
-    samples: &[u8; 33280],
+    samples: &[u8; SAMPLES],
 ) -> u64
     requires { ⌜ (at ≤ end) × (end ≤ length (now line)) ⌝ }
 {
@@ -70,7 +71,7 @@ fn of_value(
     )
 }
 
-fn each_value(line: &mut [u8], at: usize, width: usize, kind: u8, samples: &[u8; 33280])
+fn each_value(line: &mut [u8], at: usize, width: usize, kind: u8, samples: &[u8; SAMPLES])
     requires { ⌜ (width ≤ 4) × (at + width ≤ length (now line)) ⌝ }
 {
     let end = at + width;
@@ -87,7 +88,7 @@ fn each_value(line: &mut [u8], at: usize, width: usize, kind: u8, samples: &[u8;
     turn(kind, width, first, v, answer, NONE);
 }
 
-pub fn of_run(line: &mut [u8], samples: &[u8; 33280]) {
+pub fn of_run(line: &mut [u8], samples: &[u8; SAMPLES]) {
     let at = ranges::plain(line);
     let width = ranges::width(&line[at..]);
     if width == 0 {

@@ -1,15 +1,17 @@
 // A register of four slots, a letter for each, and what is asked of it. Each answer's number is handed back; aloud, all of it
 // is told.
-use crate::blocks::PART;
-use crate::blocks::lay_parts;
+use crate::blocks::REGISTER;
+use crate::blocks::lay_slots;
 use libc::STDOUT_FILENO;
+use sizes::SLOT;
+use vectors::SAMPLES;
 
 // Where the part stands in the register.
 fn place_of(register: &[u8], part: &[u8]) -> u64 {
-    let n = register.len() / PART;
+    let n = register.len() / SLOT;
     let mut i: usize = 0;
     while i < n {
-        if texts::same(texts::part(register, PART, i), part) {
+        if texts::same(texts::part(register, SLOT, i), part) {
             return i as u64;
         }
         i += 1;
@@ -17,12 +19,14 @@ fn place_of(register: &[u8], part: &[u8]) -> u64 {
     n as u64
 }
 
-// The number, and where it is 0 the place of the slot.
+// The number, and where it is 0 the place and the length of the slot.
 fn tell_found(register: &[u8], part: &[u8], number: u64) {
     crate::tell::first(number);
     if number == 0 {
         io::write_all(STDOUT_FILENO, b" at");
         crate::tell::number(place_of(register, part));
+        io::write_all(STDOUT_FILENO, b" length");
+        crate::tell::number(part.len() as u64);
     }
 }
 
@@ -75,9 +79,9 @@ fn change_slots(register: &mut [u8], tag: &[u8], f: &[u8]) {
     }
 }
 
-pub fn of_register(tag: &[u8], f: &[u8], samples: &[u8; 33280], aloud: bool) -> u64 {
-    let mut register = [0u8; 640];
-    let end = lay_parts(&mut register, samples, texts::field(f, 1, 4));
+pub fn of_register(tag: &[u8], f: &[u8], samples: &[u8; SAMPLES], aloud: bool) -> u64 {
+    let mut register = [0u8; REGISTER];
+    let end = lay_slots(&mut register, samples, texts::field(f, 1, 4));
     change_slots(&mut register, tag, f);
     of_slots(tag, f, &register[0..end], aloud)
 }

@@ -3,19 +3,20 @@
 // the register after it and the HGC. The first number is handed back; aloud, all is told.
 ghost use Prim.Native.Nat.{_≤_};
 ghost use lib.ListN.{length};
+use crate::blocks::REGISTER;
 use crate::blocks::at_most;
 use crate::blocks::is_laid;
 use crate::blocks::lay_file;
-use crate::blocks::lay_parts;
+use crate::blocks::lay_slots;
 use crate::blocks::number_in;
 use crate::blocks::sent_length;
 use importer::Imported;
 use libc::STDOUT_FILENO;
+use sizes::ROW;
+use vectors::SAMPLES;
 
 // A byte that stands in none of these HGCs.
 const UNWRITTEN: u8 = 238;
-
-const ROW: usize = 24;
 
 // Has nothing been written from byte `from` on, counted from 0.
 fn is_kept(buffer: &[u8], from: usize) -> bool {
@@ -30,7 +31,7 @@ fn is_kept(buffer: &[u8], from: usize) -> bool {
 }
 
 // The row of a letter, and none for -; how many bytes it has.
-fn lay_rows(to: &mut [u8], samples: &[u8; 33280], letters: &[u8]) -> usize
+fn lay_rows(to: &mut [u8], samples: &[u8; SAMPLES], letters: &[u8]) -> usize
     requires { ⌜ 24 ≤ length (now to) ⌝ }
     ensures { λ r. ⌜ r ≤ 24 ⌝ }
 {
@@ -41,7 +42,7 @@ fn lay_rows(to: &mut [u8], samples: &[u8; 33280], letters: &[u8]) -> usize
 
 fn imported(
     f: &[u8],
-    samples: &[u8; 33280],
+    samples: &[u8; SAMPLES],
     register: &mut [u8],
     hgv: &[u8],
     hgc: &mut [u8],
@@ -68,7 +69,7 @@ fn tell_blocks(register: &[u8], hgc: &[u8], length: usize)
     crate::tell::kept(is_kept(hgc, length));
 }
 
-fn tell_import(f: &[u8], samples: &[u8; 33280], r: Imported, register: &[u8], hgc: &[u8]) {
+fn tell_import(f: &[u8], samples: &[u8; SAMPLES], r: Imported, register: &[u8], hgc: &[u8]) {
     crate::tell::counts(r.number, r.taken, r.rejected);
     crate::tell::number(r.length);
     if r.length == 0 {
@@ -81,7 +82,7 @@ fn tell_import(f: &[u8], samples: &[u8; 33280], r: Imported, register: &[u8], hg
 
 fn with_blocks(
     f: &[u8],
-    samples: &[u8; 33280],
+    samples: &[u8; SAMPLES],
     register: &mut [u8],
     hgv: &[u8],
     hgc: &mut [u8],
@@ -94,10 +95,10 @@ fn with_blocks(
     r.number
 }
 
-fn with_file(f: &[u8], samples: &[u8; 33280], hgv: &[u8], aloud: bool) -> u64 {
-    let mut register = [0u8; 640];
+fn with_file(f: &[u8], samples: &[u8; SAMPLES], hgv: &[u8], aloud: bool) -> u64 {
+    let mut register = [0u8; REGISTER];
     let mut hgc = [UNWRITTEN; 704];
-    let end = lay_parts(&mut register, samples, texts::field(f, 20, 23));
+    let end = lay_slots(&mut register, samples, texts::field(f, 20, 23));
     let room = at_most(number_in(texts::field(f, 31, 34)), 704);
     with_blocks(
         f,
@@ -109,7 +110,7 @@ fn with_file(f: &[u8], samples: &[u8; 33280], hgv: &[u8], aloud: bool) -> u64 {
     )
 }
 
-pub fn of_import(f: &[u8], samples: &[u8; 33280], aloud: bool) -> u64 {
+pub fn of_import(f: &[u8], samples: &[u8; SAMPLES], aloud: bool) -> u64 {
     let mut hgv = [0u8; 704];
     let own = lay_file(&mut hgv, samples, texts::field(f, 25, 29));
     vectors::change(&mut hgv, texts::field(f, 41, 65536));

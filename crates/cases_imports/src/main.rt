@@ -5,6 +5,7 @@
 // byte.
 use libc::STDIN_FILENO;
 use libc::STDOUT_FILENO;
+use vectors::SAMPLES;
 
 mod blocks;
 mod each;
@@ -14,7 +15,7 @@ mod many;
 mod pairs;
 mod tell;
 
-fn of_pair(tag: &[u8], f: &[u8], samples: &[u8; 33280], aloud: bool) -> u64 {
+fn of_pair(tag: &[u8], f: &[u8], samples: &[u8; SAMPLES], aloud: bool) -> u64 {
     if texts::same(tag, b"readback") {
         return pairs::of_read(f, samples, aloud);
     }
@@ -25,7 +26,7 @@ fn of_pair(tag: &[u8], f: &[u8], samples: &[u8; 33280], aloud: bool) -> u64 {
 }
 
 // The first number of a vector's answer; aloud, all of it is told.
-pub fn of_block(tag: &[u8], f: &[u8], samples: &[u8; 33280], aloud: bool) -> u64 {
+pub fn of_block(tag: &[u8], f: &[u8], samples: &[u8; SAMPLES], aloud: bool) -> u64 {
     if texts::same(tag, b"import  ") {
         return imports::of_import(f, samples, aloud);
     }
@@ -38,7 +39,7 @@ pub fn of_block(tag: &[u8], f: &[u8], samples: &[u8; 33280], aloud: bool) -> u64
     of_pair(tag, f, samples, aloud)
 }
 
-fn answer(line: &mut [u8], samples: &mut [u8; 33280]) {
+fn answer(line: &mut [u8], samples: &mut [u8; SAMPLES]) {
     if texts::same(texts::field(line, 1, 1), b"#") {
         return;
     }
@@ -60,7 +61,7 @@ fn answer(line: &mut [u8], samples: &mut [u8; 33280]) {
 }
 
 // A line is told as it was read, and its marks are turned before it is answered.
-fn case(line: &mut [u8], samples: &mut [u8; 33280]) {
+fn case(line: &mut [u8], samples: &mut [u8; SAMPLES]) {
     io::write_all(STDOUT_FILENO, line);
     vectors::mark(line);
     answer(line, samples);
@@ -68,7 +69,7 @@ fn case(line: &mut [u8], samples: &mut [u8; 33280]) {
 }
 
 fn each_case(text: &mut [u8]) {
-    let mut samples = [0u8; 33280];
+    let mut samples = [0u8; SAMPLES];
     let mut i: usize = 0;
     while i < text.len() {
         let end = i + vectors::before(&text[i..], 10);

@@ -1,12 +1,19 @@
 // Blocks of the largest size. The first number of the answer is handed back; aloud, all is told.
 ghost use Prim.Native.Nat.{_≤_};
 ghost use lib.ListN.{length};
-use crate::blocks::PART;
 use crate::blocks::at_most;
 use crate::blocks::number_in;
+use sizes::FOOTER;
+use sizes::HEADER;
+use sizes::LINE;
+use sizes::SLOT;
+use vectors::SAMPLES;
 
 // One more than a file may have.
-const LINES: usize = 8193;
+const LINES: usize = sizes::LINES_MOST + 1;
+
+// The bytes of one slot more than a register may have.
+const ROOM: usize = (sizes::SLOTS_MOST + 1) * SLOT;
 
 // So many zero bytes as a register.
 fn in_order(room: &[u8], n: usize, aloud: bool) -> u64 {
@@ -20,40 +27,45 @@ fn in_order(room: &[u8], n: usize, aloud: bool) -> u64 {
     answer
 }
 
-// One slot more than a register may have.
-fn with_room(f: &[u8], room: &[u8; 1048704], aloud: bool) -> u64 {
+fn with_room(f: &[u8], room: &[u8; ROOM], aloud: bool) -> u64 {
     in_order(room, number_in(f), aloud)
 }
 
 pub fn of_slots(f: &[u8], aloud: bool) -> u64 {
-    let room = [0u8; 1048704];
+    let room = [0u8; ROOM];
     with_room(f, &room, aloud)
 }
 
 // A file of n lines B.
-fn lay_lines(hgv: &mut [u8], samples: &[u8; 33280], n: usize)
+fn lay_lines(hgv: &mut [u8], samples: &[u8; SAMPLES], n: usize)
     requires { ⌜ (n ≤ 8193) × (1048896 ≤ length (now hgv)) ⌝ }
 {
-    let letters = [b'B'; 8193];
-    vectors::lay(hgv, 1, PART, samples, b"0");
-    vectors::lay(hgv, 129, PART, samples, &letters[0..n]);
-    vectors::lay(hgv, 129 + n * PART, 64, samples, b"T");
+    let letters = [b'B'; LINES];
+    vectors::lay(hgv, 1, HEADER, samples, b"0");
+    vectors::lay(hgv, HEADER + 1, LINE, samples, &letters[0..n]);
+    vectors::lay(hgv, HEADER + n * LINE + 1, FOOTER, samples, b"T");
     numbers::put_number(hgv, 66, 15, n as u64);
 }
 
 // Each line is to be rejected.
-fn import_lines(f: &[u8], samples: &[u8; 33280], hgv: &mut [u8], hgc: &mut [u8], aloud: bool) -> u64
+fn import_lines(
+    f: &[u8],
+    samples: &[u8; SAMPLES],
+    hgv: &mut [u8],
+    hgc: &mut [u8],
+    aloud: bool,
+) -> u64
     requires { ⌜ 1048896 ≤ length (now hgv) ⌝ }
 {
     let n = at_most(number_in(f), LINES);
-    let mut register = [0u8; 128];
+    let mut register = [0u8; SLOT];
     lay_lines(hgv, samples, n);
     let r = importer::import(
         1,
         b"20250310050000",
         &mut register,
         b"97990012      0816900123",
-        texts::field(hgv, 1, n * PART + 192),
+        texts::field(hgv, 1, HEADER + n * LINE + FOOTER),
         hgc,
     );
     if aloud {
@@ -66,7 +78,7 @@ fn import_lines(f: &[u8], samples: &[u8; 33280], hgv: &mut [u8], hgc: &mut [u8],
 // The largest HGC.
 fn with_blocks(
     f: &[u8],
-    samples: &[u8; 33280],
+    samples: &[u8; SAMPLES],
     hgv: &mut [u8; 1048896],
     hgc: &mut [u8; 1065134],
     aloud: bool,
@@ -74,7 +86,7 @@ fn with_blocks(
     import_lines(f, samples, hgv, hgc, aloud)
 }
 
-pub fn of_lines(f: &[u8], samples: &[u8; 33280], aloud: bool) -> u64 {
+pub fn of_lines(f: &[u8], samples: &[u8; SAMPLES], aloud: bool) -> u64 {
     let mut hgv = [0u8; 1048896];
     let mut hgc = [0u8; 1065134];
     with_blocks(f, samples, &mut hgv, &mut hgc, aloud)

@@ -3,15 +3,17 @@
 // answer is handed back; aloud, all is told.
 ghost use Prim.Native.Nat.{_≤_};
 ghost use lib.ListN.{length};
+use crate::blocks::REGISTER;
 use crate::blocks::at_most;
 use crate::blocks::is_laid;
 use crate::blocks::lay_file;
 use crate::blocks::lay_hgc;
-use crate::blocks::lay_parts;
+use crate::blocks::lay_slots;
 use crate::blocks::number_in;
 use crate::blocks::sent_length;
 use libc::STDOUT_FILENO;
 use provider::Counted;
+use vectors::SAMPLES;
 
 // No verdict.
 const UNWRITTEN: u8 = 238;
@@ -23,7 +25,7 @@ fn change_in(to: &mut [u8], pair: &[u8], file: &[u8]) {
 }
 
 // The HGV of a pair; how many bytes of it are sent.
-fn lay_sent(to: &mut [u8], samples: &[u8; 33280], pair: &[u8]) -> usize
+fn lay_sent(to: &mut [u8], samples: &[u8; SAMPLES], pair: &[u8]) -> usize
     requires { ⌜ 704 ≤ length (now to) ⌝ }
     ensures { λ r. ⌜ 1 ≤ r ⌝ }
 {
@@ -33,7 +35,7 @@ fn lay_sent(to: &mut [u8], samples: &[u8; 33280], pair: &[u8]) -> usize
 }
 
 // The HGC of a pair; how many bytes of it come back.
-fn lay_back(to: &mut [u8], samples: &[u8; 33280], pair: &[u8]) -> usize
+fn lay_back(to: &mut [u8], samples: &[u8; SAMPLES], pair: &[u8]) -> usize
     requires { ⌜ 704 ≤ length (now to) ⌝ }
     ensures { λ r. ⌜ 1 ≤ r ⌝ }
 {
@@ -74,7 +76,7 @@ fn read(f: &[u8], hgv: &[u8], hgc: &[u8], aloud: bool) -> u64 {
     read_into(&mut block[0..n], hgv, hgc, aloud)
 }
 
-pub fn of_read(f: &[u8], samples: &[u8; 33280], aloud: bool) -> u64 {
+pub fn of_read(f: &[u8], samples: &[u8; SAMPLES], aloud: bool) -> u64 {
     let mut hgv = [0u8; 704];
     let mut hgc = [0u8; 704];
     let pair = texts::field(f, 3, 65536);
@@ -89,7 +91,7 @@ pub fn of_read(f: &[u8], samples: &[u8; 33280], aloud: bool) -> u64 {
 }
 
 // The numbers, and the copy after it; at a stop, whether it is as it was.
-fn tell_copy(r: Counted, f: &[u8], samples: &[u8; 33280], copy: &[u8]) {
+fn tell_copy(r: Counted, f: &[u8], samples: &[u8; SAMPLES], copy: &[u8]) {
     crate::tell::counts(r.number, r.taken, r.rejected);
     if r.number == 0 {
         io::write_all(STDOUT_FILENO, b"\n");
@@ -102,7 +104,7 @@ fn tell_copy(r: Counted, f: &[u8], samples: &[u8; 33280], copy: &[u8]) {
 
 fn update_copy(
     f: &[u8],
-    samples: &[u8; 33280],
+    samples: &[u8; SAMPLES],
     copy: &mut [u8],
     hgv: &[u8],
     hgc: &[u8],
@@ -116,13 +118,13 @@ fn update_copy(
     r.number
 }
 
-fn update(f: &[u8], samples: &[u8; 33280], hgv: &[u8], hgc: &[u8], aloud: bool) -> u64 {
-    let mut copy = [0u8; 640];
-    let end = lay_parts(&mut copy, samples, texts::field(f, 3, 6));
+fn update(f: &[u8], samples: &[u8; SAMPLES], hgv: &[u8], hgc: &[u8], aloud: bool) -> u64 {
+    let mut copy = [0u8; REGISTER];
+    let end = lay_slots(&mut copy, samples, texts::field(f, 3, 6));
     update_copy(f, samples, &mut copy[0..end], hgv, hgc, aloud)
 }
 
-pub fn of_update(f: &[u8], samples: &[u8; 33280], aloud: bool) -> u64 {
+pub fn of_update(f: &[u8], samples: &[u8; SAMPLES], aloud: bool) -> u64 {
     let mut hgv = [0u8; 704];
     let mut hgc = [0u8; 704];
     let pair = texts::field(f, 8, 65536);

@@ -1,7 +1,6 @@
 // What is written behind a vector.
 use libc::STDOUT_FILENO;
-
-const SLOT: usize = 128;
+use sizes::SLOT;
 
 const NO: u64 = 100;
 
@@ -41,13 +40,15 @@ pub fn counts(number: u64, taken: u64, rejected: u64) {
     crate::tell::number(rejected);
 }
 
+// A slot that is used has two lines: its record, which ends with LF, and its stamp.
 fn slot(slot: &[u8]) {
-    let free = [0u8; 128];
+    let free = [0u8; SLOT];
     if texts::same(slot, &free) {
         io::write_all(STDOUT_FILENO, b"free\n");
         return;
     }
     io::write_all(STDOUT_FILENO, slot);
+    io::write_all(STDOUT_FILENO, b"\n");
 }
 
 pub fn slots(register: &[u8]) {

@@ -15,7 +15,7 @@ use Rattle.theory.specs.laws.Parts.{part-fits}
 use Rattle.texts.specs.Field.{field}
 use Rattle.numbers.specs.Number.{number}
 use Rattle.writing.specs.Put.{putField}
-use Rattle.vectors.specs.Vectors.{other, marked, fits, putText, changed, kept, sample, laid}
+use Rattle.vectors.specs.Vectors.{textMost, other, marked, fits, putText, changed, kept, sample, laid}
 
 -- what stands behind the first i bytes of two texts is one: so is the next byte, and so is what stands behind it
 next-same : (a b : List ℕ) (i : ℕ) → drop i a ≡ drop i b → i < length a → i < length b → getD a i 0 ≡ getD b i 0
@@ -112,7 +112,7 @@ pub letter-none : (f : List ℕ) → length f ≡ 0 → 0 ≡ getD f 0 0
 letter-none [] h = refl
 letter-none (x ∷ f) h = absurd (omega arith)
 
-pub kept-by : (letter : ℕ) (t f b b′ : List ℕ) → letter ≡ getD f 0 0 → t ≡ field 3 65536 f → b′ ≡ putText (letter * 130 + 1) t b → b′ ≡ kept f b
+pub kept-by : (letter : ℕ) (t f b b′ : List ℕ) → letter ≡ getD f 0 0 → t ≡ field 3 (textMost + 2) f → b′ ≡ putText (letter * textMost + 1) t b → b′ ≡ kept f b
 unfolding kept
 kept-by letter t f b b′ e h p = p ∙ rw (e, h)
 
@@ -143,7 +143,7 @@ module _ (width : ℕ) (samples : List ℕ) (from : ℕ) (letters to₀ : List �
         (omega (arith, v .0), omega (arith, v .0))
 
 -- one text, as the code lends it
-pub lay-lent : (from width c : ℕ) (samples text f to to′ : List ℕ) → text ≡ partAt 130 c samples → f ≡ take (width - 0) text → to′ ≡ putField from f to → to′ ≡ putField from (sample width samples c) to
+pub lay-lent : (from width c : ℕ) (samples text f to to′ : List ℕ) → text ≡ partAt textMost c samples → f ≡ take (width - 0) text → to′ ≡ putField from f to → to′ ≡ putField from (sample width samples c) to
 unfolding sample
 lay-lent from width c samples text f to to′ e k h = let z : width - 0 ≡ width = omega arith in h ∙ rw (k, e, z)
 

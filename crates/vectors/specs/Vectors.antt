@@ -10,6 +10,13 @@ use Rattle.texts.specs.Field.{field}
 use Rattle.numbers.specs.Number.{number}
 use Rattle.writing.specs.Put.{putField}
 
+-- the most bytes that a text with a letter has; there is room for so many under each of 256 letters
+abbrev pub textMost : ℕ
+textMost = 168
+
+abbrev pub samplesLength : ℕ
+samplesLength = 256 * textMost
+
 abbrev pub other : ℕ → ℕ → Bool
 other end b = not (eqb b end)
 
@@ -29,13 +36,13 @@ putText from t b = cond (fits from (length t) (length b)) (putField from t b) b
 unfoldable pub changed : List ℕ → List ℕ → List ℕ
 changed f b = putText (number (field 1 3 f)) (field 5 65536 f) b
 
--- the letter, a blank, the text; there is room for 130 bytes each
+-- the letter, a blank, the text, of which no byte comes under another letter
 unfoldable pub kept : List ℕ → List ℕ → List ℕ
-kept f samples = putText (getD f 0 0 * 130 + 1) (field 3 65536 f) samples
+kept f samples = putText (getD f 0 0 * textMost + 1) (field 3 (textMost + 2) f) samples
 
 -- the first bytes of the text that a letter names
 unfoldable pub sample : ℕ → List ℕ → ℕ → List ℕ
-sample width samples letter = take width (partAt 130 letter samples)
+sample width samples letter = take width (partAt textMost letter samples)
 
 -- the texts of the letters one behind the other from a position on
 unfoldable pub laid : ℕ → List ℕ → ℕ → List ℕ → List ℕ → List ℕ

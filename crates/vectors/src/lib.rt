@@ -4,11 +4,17 @@ ghost use mathlib.Core.Path.{_≡_};
 ghost use Prim.Native.Nat.{_+_, _-_, _*_, _≤_};
 ghost use lib.ListN.{length, getD};
 ghost use Rattle.writing.specs.Put.{putField};
-ghost use Rattle.vectors.specs.Vectors.{marked, fits, putText, sample};
+ghost use Rattle.vectors.specs.Vectors.{textMost, samplesLength, marked, fits, putText, sample};
 ghost use Rattle.vectors.specs.Promises.{Before, Mark, Change, Keep, Lay};
 
 // The most bytes that a text with a letter has.
-pub const WIDTH: usize = 130;
+pub const WIDTH: usize = 168;
+
+// Its last position, behind its letter and a blank.
+const TEXT_TO: usize = WIDTH + 2;
+
+// The bytes of the texts of all letters.
+pub const SAMPLES: usize = 256 * WIDTH;
 
 // How many bytes stand in front of the first `end`.
 pub fn before(s: &[u8], end: u8) -> usize
@@ -89,7 +95,7 @@ fn letter_of(f: &[u8]) -> u8
     f[0]
 }
 
-// A text with its letter: the letter, a blank, the text.
+// A text with its letter: the letter, a blank, the text, of which no byte comes under another letter.
 pub fn keep(samples: &mut [u8], f: &[u8])
     ensures { λ _. ⌜ Keep (now (samples .entry)) (now (f .entry)) (now (samples .exit)) ⌝ }
 {
@@ -97,13 +103,13 @@ pub fn keep(samples: &mut [u8], f: &[u8])
     put_text(
         samples,
         letter as usize * WIDTH + 1,
-        texts::field(f, 3, 65536),
+        texts::field(f, 3, TEXT_TO),
     );
 }
 
 // The first bytes of the text that a letter names, from a position on.
 fn lay_one(to: &mut [u8], from: usize, width: usize, samples: &[u8], letter: u8)
-    requires { ⌜ ((1 ≤ from) × (from - 1 + width ≤ length (now to))) × ((width ≤ 130) × (length (now samples) ≡ 33280)) ⌝ }
+    requires { ⌜ ((1 ≤ from) × (from - 1 + width ≤ length (now to))) × ((width ≤ textMost) × (length (now samples) ≡ samplesLength)) ⌝ }
     ensures { λ _. ⌜ now (to .exit) ≡ putField from (sample width (now (samples .entry)) letter) (now (to .entry)) ⌝ }
 {
     let text = texts::part(samples, WIDTH, letter as usize);
@@ -112,7 +118,7 @@ fn lay_one(to: &mut [u8], from: usize, width: usize, samples: &[u8], letter: u8)
 
 // The texts that the letters name, each by its first bytes, one behind the other from a position on.
 pub fn lay(to: &mut [u8], from: usize, width: usize, samples: &[u8], letters: &[u8])
-    requires { ⌜ ((1 ≤ from) × (from - 1 + length (now letters) * width ≤ length (now to))) × ((width ≤ 130) × (length (now samples) ≡ 33280)) ⌝ }
+    requires { ⌜ ((1 ≤ from) × (from - 1 + length (now letters) * width ≤ length (now to))) × ((width ≤ textMost) × (length (now samples) ≡ samplesLength)) ⌝ }
     ensures { λ _. ⌜ Lay (now (to .entry)) from width (now (samples .entry)) (now (letters .entry)) (now (to .exit)) ⌝ }
 {
     let mut at = from;

@@ -1,5 +1,7 @@
 //! What is written behind a vector.
 
+use super::blocks::SLOT;
+
 /// What a vector is answered with: yes, no or its first number, which is all that `each` tells, and what stands behind it.
 pub struct Answer {
     pub first: String,
@@ -35,8 +37,8 @@ pub fn kept(holds: bool) -> &'static [u8] {
     }
 }
 
-/// The slots of a register, one a line.
+/// The slots of a register: of a used one its record, which ends with LF, and on a line of its own its stamp.
 pub fn slots(register: &[u8]) -> Vec<u8> {
-    let told = |slot: &[u8]| if slot == [0; 128] { b"free\n".to_vec() } else { slot.to_vec() };
-    register.chunks(128).flat_map(told).collect()
+    let told = |slot: &[u8]| if slot == [0; SLOT] { b"free\n".to_vec() } else { [slot, b"\n"].concat() };
+    register.chunks(SLOT).flat_map(told).collect()
 }

@@ -1,7 +1,19 @@
 //! Texts named by letters, laid out one behind the other, and a place changed.
 
 /// The most bytes that a text with a letter has.
-const WIDTH: usize = 130;
+const WIDTH: usize = SLOT;
+
+/// A slot of a register with its stamp; the header or a line of an HGV.
+pub const SLOT: usize = 168;
+pub const LINE: usize = 128;
+const FOOTER: usize = 64;
+
+/// The header of an HGC, and an answer in it.
+const HGC_HEADER: usize = 110;
+const ANSWER: usize = 130;
+
+/// The most letters of a register, and of an HGV: its header and lines.
+pub const LETTERS: usize = 5;
 
 /// What stands for LF and CR in a vector is turned into these bytes, once, when it is read.
 pub fn marked(line: &[u8]) -> Vec<u8> {
@@ -47,40 +59,40 @@ pub fn letters(f: &[u8], most: usize) -> &[u8] {
 }
 
 /// The texts that letters name. A letter without a text names zero bytes.
-pub struct Samples(Vec<u8>);
+pub struct Samples(Vec<[u8; WIDTH]>);
 
 impl Samples {
     pub fn none() -> Samples {
-        Samples(vec![0; 256 * WIDTH])
+        Samples(vec![[0; WIDTH]; 256])
     }
 
-    /// The letter, a blank, the text.
+    /// The letter, a blank, the text, of which no byte comes under another letter.
     pub fn keep(&mut self, f: &[u8]) {
-        let letter = f.first().copied().unwrap_or(0);
-        put(&mut self.0, usize::from(letter) * WIDTH + 1, rest(f, 3));
+        let (letter, text) = (f.first().copied().unwrap_or(0), rest(f, 3));
+        assert!(text.len() <= WIDTH, "a text of {} bytes", text.len());
+        self.0[usize::from(letter)][..text.len()].copy_from_slice(text);
     }
 
     /// The first bytes of the texts, one behind the other.
     pub fn laid(&self, width: usize, letters: &[u8]) -> Vec<u8> {
-        let text = |&letter: &u8| &self.0[usize::from(letter) * WIDTH..][..width];
-        letters.iter().flat_map(text).copied().collect()
+        letters.iter().flat_map(|&letter| &self.0[usize::from(letter)][..width]).copied().collect()
     }
 
-    /// Slots or lines by their letters before the first `-`.
-    pub fn parts(&self, f: &[u8]) -> Vec<u8> {
-        self.laid(128, letters(f, 5))
+    /// A register: slots by their letters before the first `-`.
+    pub fn slots(&self, f: &[u8]) -> Vec<u8> {
+        self.laid(SLOT, letters(f, LETTERS))
     }
 
     /// Header and lines by their letters, and a footer.
     pub fn hgv(&self, f: &[u8]) -> Vec<u8> {
-        [self.parts(f), self.laid(64, b"T")].concat()
+        [self.laid(LINE, letters(f, LETTERS)), self.laid(FOOTER, b"T")].concat()
     }
 
     /// The header of an HGC by its letter, an answer for each letter behind it, and a footer.
     pub fn hgc(&self, f: &[u8]) -> Vec<u8> {
-        let mut header = self.laid(110, letters(f, 1));
-        header.resize(110, 0);
-        [header, self.laid(130, letters(rest(f, 2), 4)), self.laid(64, b"T")].concat()
+        let mut header = self.laid(HGC_HEADER, letters(f, 1));
+        header.resize(HGC_HEADER, 0);
+        [header, self.laid(ANSWER, letters(rest(f, 2), 4)), self.laid(FOOTER, b"T")].concat()
     }
 }
 

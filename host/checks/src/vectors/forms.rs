@@ -1,6 +1,6 @@
 //! The vectors on the forms of fields, issuer rows, lines and HGVs, and on the writer.
 
-use super::blocks::{change, field, number, rest};
+use super::blocks::{change, field, number, rest, LINE};
 use super::{given, Answer, Samples};
 use crate::plain::words::{is_digit, is_real_date, is_real_time, leading};
 use crate::plain::{hgv, line, register, rows, verdict};
@@ -28,7 +28,7 @@ fn fault(text: &[u8], of: &[u8]) -> u64 {
 }
 
 fn of_line(samples: &Samples, tag: &[u8], f: &[u8]) -> Option<Answer> {
-    let mut text = samples.laid(128, b"X");
+    let mut text = samples.laid(LINE, b"X");
     if tag == b"under   " {
         return Answer::number(fault(&text, f));
     }

@@ -20,7 +20,7 @@ fn is_kept(block: &[u8]) -> bool {
 
 fn of_import(samples: &Samples, f: &[u8]) -> Option<Answer> {
     let hgv = sent(samples.hgv(field(f, 25, 29)), field(f, 36, 39), |hgv| change(hgv, rest(f, 41)));
-    let before = samples.parts(field(f, 20, 23));
+    let before = samples.slots(field(f, 20, 23));
     let rows = samples.laid(24, letters(field(f, 18, 18), 1));
     let mut register = before.clone();
     let mut hgc = vec![UNWRITTEN; number(field(f, 31, 34)).min(704)];

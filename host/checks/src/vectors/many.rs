@@ -1,24 +1,27 @@
 //! Blocks of the largest size.
 
-use super::blocks::{field, number};
+use super::blocks::{field, number, LINE, SLOT};
 use super::imports::counted;
 use super::{Answer, Samples};
 use crate::plain;
 
+/// One more than a register has slots, and a file lines.
+const MORE: usize = 8193;
+
 /// So many zero bytes as a register; there is room for one slot more than a register may have.
 pub fn of_slots(f: &[u8]) -> Option<Answer> {
     let bytes = number(field(f, 1, 15));
-    (bytes <= 8193 * 128).then(|| Answer::truth(plain::in_order(&vec![0; bytes])))?
+    (bytes <= MORE * SLOT).then(|| Answer::truth(plain::in_order(&vec![0; bytes])))?
 }
 
 /// A file of so many lines B.
 pub fn of_lines(samples: &Samples, f: &[u8]) -> Option<Answer> {
-    let n = number(field(f, 1, 15)).min(8193);
-    let mut hgv = samples.laid(128, b"0");
+    let n = number(field(f, 1, 15)).min(MORE);
+    let mut hgv = samples.laid(LINE, b"0");
     hgv[65..80].copy_from_slice(format!("{n:015}").as_bytes());
-    hgv.extend(samples.laid(128, &vec![b'B'; n]));
+    hgv.extend(samples.laid(LINE, &vec![b'B'; n]));
     hgv.extend(samples.laid(64, b"T"));
-    let (mut register, mut hgc) = (vec![0; 128], vec![0; 174 + 8192 * 130]);
+    let (mut register, mut hgc) = (vec![0; SLOT], vec![0; 174 + 8192 * 130]);
     let rows = b"97990012      0816900123";
     let done = plain::import(1, b"20250310050000", &mut register, rows, &hgv, &mut hgc);
     let behind = format!("{} {}", counted(done.taken, done.rejected), done.length).into_bytes();
