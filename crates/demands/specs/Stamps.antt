@@ -10,7 +10,7 @@ use Rattle.theory.specs.Each.{Each}
 use Rattle.theory.specs.Pick.{good, pick}
 use Rattle.columns.specs.Columns.{actor, panOf}
 use Rattle.sizes.specs.Sizes.{slotLength}
-use Rattle.stamps.specs.Stamp.{stampIn, listIn, receptionIn, stampHolds}
+use Rattle.stamps.specs.Stamp.{stampIn, Carries, stampHolds}
 use Rattle.header.specs.Header.{sender, listSequence}
 use Rattle.hgv.specs.Layout.{linesOf}
 use Rattle.slots.specs.Slots.{records}
@@ -30,10 +30,6 @@ use Rattle.demands.specs.laws.Stamps as laws
 -- stamp
 pub each-stamped : (b : List ℕ) → inOrder b ≡ true → Each (λ x. stampHolds (actor x) (stampIn x) ≡ true) (records b)
 each-stamped = laws.each-stamped
-
--- x carries this list and this reception
-abbrev pub Carries : List ℕ → List ℕ → List ℕ → Type 0
-Carries list reception x = (listIn (stampIn x) ≡ list) × (receptionIn (stampIn x) ≡ reception)
 
 -- "Lookups answer all 168 bytes": whatever their contracts admit with the number 0 has as many bytes as a slot
 module _ (b part : List ℕ) (number : ℕ) where

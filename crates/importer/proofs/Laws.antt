@@ -15,8 +15,9 @@ use Rattle.header.specs.Header.{sender, listSequence}
 use Rattle.header.specs.laws.Header.{header-list}
 use Rattle.times.specs.laws.Moment.{real-length}
 use Rattle.sizes.specs.Sizes.{slotsMost, lineMost, linesMost, timeLength}
+use Rattle.sequences.specs.Sequence.{listLength}
 use Rattle.sequences.specs.laws.Length.{sequence-length}
-use Rattle.stamps.specs.Stamp.{listLength, stamp}
+use Rattle.stamps.specs.Stamp.{stamp}
 use Rattle.records.specs.Slot.{slotOf, storable}
 use Rattle.taken.specs.Taken.{takenIn}
 use Rattle.hgv.specs.Layout.{widthOf, linesIn, lengthHolds, body}

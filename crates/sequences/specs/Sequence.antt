@@ -12,8 +12,11 @@ use Rattle.fields.specs.Field.{digit}
 use Rattle.numbers.specs.Number.{number}
 use Rattle.times.specs.Time.{realDate}
 
+abbrev pub listLength : ℕ
+listLength = 19
+
 -- `HGV`, sender, real date, 01-99
 unfoldable pub sequence : List ℕ → List ℕ → Bool
 sequence from f =
-    eqb (length f) 19 && eqs (field 1 3 f) (bytes "HGV") && eqs (field 4 9 f) from && realDate (field 10 17 f)
+    eqb (length f) listLength && eqs (field 1 3 f) (bytes "HGV") && eqs (field 4 9 f) from && realDate (field 10 17 f)
     && run digit 2 (field 18 19 f) && leb 1 (number (field 18 19 f))

@@ -8,7 +8,8 @@ use Rattle.theory.specs.Text.{bytes}
 use Rattle.sizes.specs.Sizes.{stampLength, timeLength}
 use Rattle.writing.specs.Put.{putField}
 use Rattle.writing.specs.laws.Put.{written-start, written-next, written-end}
-use Rattle.stamps.specs.Stamp.{listLength, stamp}
+use Rattle.sequences.specs.Sequence.{listLength}
+use Rattle.stamps.specs.Stamp.{stamp}
 
 -- s₁ to s₃ are the text after each field
 pub stamp-written : (list reception s₀ s₁ s₂ s₃ : List ℕ) → length s₀ ≡ stampLength → length list ≡ listLength → length reception ≡ timeLength

@@ -3,7 +3,7 @@
 ghost use mathlib.Core.Path.{_≡_};
 ghost use lib.ListN.{length};
 ghost use Rattle.sizes.specs.Sizes.{stampLength, timeLength};
-ghost use Rattle.stamps.specs.Stamp.{listLength};
+ghost use Rattle.sequences.specs.Sequence.{listLength};
 ghost use Rattle.stamps.specs.Promises.{IsStamp, Reception, WriteStamp};
 
 // Its columns, the first and the last position of each.

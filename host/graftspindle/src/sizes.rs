@@ -10,8 +10,14 @@ pub const LINE: usize = 128;
 /// The record at the beginning of a used slot: a taken line, its Valid to replaced by its end.
 pub const RECORD: usize = 128;
 
-/// The stamp behind a record: the list sequence of the file that brought it, its reception, and seven zeros.
+/// The stamp behind a record: the list sequence of the file that touched it last, its reception, and seven zeros.
 pub const STAMP: usize = 40;
+
+/// A list sequence.
+pub const LIST: usize = 19;
+
+/// A time, `YYYYMMDDhhmmss`.
+pub const TIME: usize = 14;
 
 /// A slot of a register.
 pub const SLOT: usize = RECORD + STAMP;

@@ -1,6 +1,6 @@
 //! A slot of a register, by its parts.
 
-use crate::sizes::{RECORD, SLOT};
+use crate::sizes::{LIST, RECORD, SLOT, TIME};
 
 /// A slot where it stands in its register: a record, and the stamp of the file that touched it last. A free one is zero bytes.
 #[derive(Clone, Copy, Debug, PartialEq, Eq)]
@@ -23,11 +23,11 @@ impl<'a> Slot<'a> {
 
     /// The list sequence of the file whose line was taken last for this account: positions 129 to 147.
     pub fn list(self) -> &'a [u8] {
-        &self.0[RECORD..RECORD + 19]
+        &self.0[RECORD..RECORD + LIST]
     }
 
     /// When that file was received, UTC, `YYYYMMDDhhmmss`: positions 148 to 161.
     pub fn received(self) -> &'a [u8] {
-        &self.0[RECORD + 19..RECORD + 33]
+        &self.0[RECORD + LIST..RECORD + LIST + TIME]
     }
 }

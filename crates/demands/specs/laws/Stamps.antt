@@ -16,10 +16,10 @@ use Rattle.theory.specs.laws.Parts.{length-part}
 use Rattle.times.specs.Time.{realTime}
 use Rattle.times.specs.laws.Moment.{real-length}
 use Rattle.columns.specs.Columns.{actor, panOf}
-use Rattle.sizes.specs.Sizes.{slotLength}
-use Rattle.sequences.specs.Sequence.{sequence}
+use Rattle.sizes.specs.Sizes.{slotLength, timeLength}
+use Rattle.sequences.specs.Sequence.{listLength, sequence}
 use Rattle.sequences.specs.laws.Length.{sequence-length}
-use Rattle.stamps.specs.Stamp.{stampIn, listIn, receptionIn, stamp, stampHolds}
+use Rattle.stamps.specs.Stamp.{stampIn, stamp, Carries, stampHolds}
 use Rattle.stamps.specs.laws.Stamp.{stamp-list, stamp-reception}
 use Rattle.records.specs.Slot.{slotOf}
 use Rattle.hgv.specs.Layout.{linesOf}
@@ -75,14 +75,10 @@ module _ (b part : List ℕ) (number : ℕ) where
 
 -- ---- an import
 
--- x carries this list and this reception
-abbrev pub Carries : List ℕ → List ℕ → List ℕ → Type 0
-Carries list reception x = (listIn (stampIn x) ≡ list) × (receptionIn (stampIn x) ≡ reception)
-
 carries : (who list reception : List ℕ) → sequence who list ≡ true → realTime reception ≡ true → (x : List ℕ) → stampIn x ≡ stamp list reception → Carries list reception x
 carries who list reception s t x k =
-    let n : length list ≡ 19 = sequence-length who list s in
-    let m : length reception ≡ 14 = real-length reception t in
+    let n : length list ≡ listLength = sequence-length who list s in
+    let m : length reception ≡ timeLength = real-length reception t in
     rw k (stamp-list list reception n m, stamp-reception list reception n m)
 
 module _ (f : Handed) (register : List ℕ) (r : Imported) (b g : List ℕ) (o : Import f register r b g) (z : r .number ≡ 0)

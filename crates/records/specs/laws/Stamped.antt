@@ -74,11 +74,15 @@ module _ (s l : List ℕ) (h : storable s l ≡ true) where
   unfolding slotOf
   slot-stamp = field-behind stampFrom slotLength slotEnd r s size (omega arith) ∙ field-all stampLength s (omega (arith, sized))
 
+  -- positions 2 to 100 are the line's
+  slot-front : (a b : ℕ) → 2 ≤ a → a ≤ b → b ≤ 100 → field a b (slotOf s l) ≡ field a b l
+  slot-front a b i j k = slot-record a b (omega arith) j (omega arith) ∙ record-front (receptionIn s) l long dated a b i j k
+
   pub slot-pan : panOf (slotOf s l) ≡ panOf l
-  slot-pan = slot-record 14 32 (omega arith) (omega arith) (omega arith) ∙ record-front (receptionIn s) l long dated 14 32 (omega arith) (omega arith) (omega arith)
+  slot-pan = slot-front 14 32 (omega arith) (omega arith) (omega arith)
 
   pub slot-actor : actor (slotOf s l) ≡ actor l
-  slot-actor = slot-record 2 7 (omega arith) (omega arith) (omega arith) ∙ record-front (receptionIn s) l long dated 2 7 (omega arith) (omega arith) (omega arith)
+  slot-actor = slot-front 2 7 (omega arith) (omega arith) (omega arith)
 
   pub slot-first : field 1 1 (slotOf s l) ≡ bytes "1"
   slot-first = slot-record 1 1 (omega arith) (omega arith) (omega arith) ∙ record-first (receptionIn s) l long dated

@@ -15,10 +15,10 @@ use Rattle.texts.specs.Field.{field}
 use Rattle.fields.specs.Field.{digit}
 use Rattle.numbers.specs.Number.{number}
 use Rattle.times.specs.Time.{realDate}
-use Rattle.sequences.specs.Sequence.{sequence}
+use Rattle.sequences.specs.Sequence.{listLength, sequence}
 
-pub sequence-length : (from f : List ℕ) → sequence from f ≡ true → length f ≡ 19
+pub sequence-length : (from f : List ℕ) → sequence from f ≡ true → length f ≡ listLength
 unfolding sequence joined
 sequence-length from f h =
-    eqb-true (length f) 19
-    (each-head (joined-each (eqb (length f) 19) (eqs (field 1 3 f) (bytes "HGV") ∷ eqs (field 4 9 f) from ∷ realDate (field 10 17 f) ∷ run digit 2 (field 18 19 f) ∷ leb 1 (number (field 18 19 f)) ∷ []) h))
+    eqb-true (length f) listLength
+    (each-head (joined-each (eqb (length f) listLength) (eqs (field 1 3 f) (bytes "HGV") ∷ eqs (field 4 9 f) from ∷ realDate (field 10 17 f) ∷ run digit 2 (field 18 19 f) ∷ leb 1 (number (field 18 19 f)) ∷ []) h))

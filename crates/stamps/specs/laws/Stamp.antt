@@ -17,9 +17,9 @@ use Rattle.texts.specs.laws.Field.{field-before, field-behind, field-all}
 use Rattle.fields.specs.Field.{zeroDigit}
 use Rattle.times.specs.Time.{realTime}
 use Rattle.times.specs.laws.Moment.{real-length}
-use Rattle.sequences.specs.Sequence.{sequence}
+use Rattle.sequences.specs.Sequence.{listLength, sequence}
 use Rattle.sequences.specs.laws.Length.{sequence-length}
-use Rattle.stamps.specs.Stamp.{listLength, listIn, receptionIn, stamp, stampHolds}
+use Rattle.stamps.specs.Stamp.{listIn, receptionIn, stamp, stampHolds}
 
 -- ---- what is written
 

@@ -140,7 +140,14 @@ fn size(name: &str) -> u64 {
 
 #[test]
 fn sizes_and_modes_are_the_crates() {
-    let here = [("HEADER", sizes::HEADER), ("LINE", sizes::LINE), ("SLOT", sizes::SLOT)];
+    let here = [
+        ("HEADER", sizes::HEADER),
+        ("LINE", sizes::LINE),
+        ("SLOT", sizes::SLOT),
+        ("SLOT_END", sizes::RECORD),
+        ("STAMP", sizes::STAMP),
+        ("TIME", sizes::TIME),
+    ];
     for (name, bytes) in here {
         assert_eq!(bytes as u64, size(name), "{name}");
     }
