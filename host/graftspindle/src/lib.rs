@@ -1,8 +1,9 @@
 //! The proved account register of a group of toll roads, as safe Rust for a service.
 //!
 //! [`Register`] is a road's register, or a provider's copy of his part of it: an HGV is imported into it, a PAN or a plate
-//! looked up in it, a confirmed HGV applied to a copy. A lookup hands back the [`Slot`] itself: the record, and which file
-//! touched it and when. [`read_back`] tells a provider what an HGC says of each of his lines.
+//! looked up in it, a confirmed HGV applied to a copy, and either is swept of its ended records. A lookup hands back the
+//! [`Slot`] itself: the record, and which file touched it and when. [`read_back`] tells a provider what an HGC says of each of
+//! his lines.
 //! [`write`] makes an HGV of a provider's [`Account`]s that passes the import's form, with no line that breaks a rule of its own.
 //! Every answer is the proved library's and nothing here judges a byte. What is refused is refused by its [`Number`] in the
 //! definition, and a refusal leaves every block as it was.

@@ -15,12 +15,14 @@
 
 mod answers;
 mod provider;
+mod sweep;
 mod writer;
 
 use std::ops::Range;
 
-pub use answers::{Counted, Imported, Written};
+pub use answers::{Counted, Imported, Swept, Written};
 pub use provider::{read_back, update};
+pub use sweep::sweep;
 pub use writer::{write, List};
 
 #[cfg(not(target_pointer_width = "64"))]

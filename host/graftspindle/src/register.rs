@@ -94,6 +94,14 @@ impl Register {
         unless_refused(done.number, Counts { taken: done.taken, rejected: done.rejected })
     }
 
+    /// Removes every record that has ended by the time, `YYYYMMDDhhmmss`, and says how many went: those whose end is not zeros
+    /// and not later. The others close up in order, and the freed slots are the next import's. Every provider sweeps his copy
+    /// at the same time, between the same lists of his, or it no longer holds what is held for him.
+    pub fn sweep(&mut self, time: &[u8]) -> Result<u64, Number> {
+        let done = raw::sweep(&mut self.0, time);
+        unless_refused(done.number, done.removed)
+    }
+
     /// All slots, used and free, of a register in order.
     pub fn slots(&self) -> impl Iterator<Item = Slot<'_>> {
         self.0.as_chunks().0.iter().map(Slot::at)

@@ -32,3 +32,12 @@ pub struct Written {
     /// The bytes of the HGV, at the beginning of its buffer.
     pub length: u64,
 }
+
+/// The answer of a sweep.
+#[derive(Clone, Copy, Debug, Default, PartialEq, Eq)]
+pub struct Swept {
+    /// 0, or the number of the refusal.
+    pub number: u64,
+    /// How many records went.
+    pub removed: u64,
+}
