@@ -3,7 +3,7 @@
 use std::ops::Range;
 
 use crate::{hashed, plain};
-use graftspindle::raw::{self, Counted, Imported, List, Written};
+use graftspindle::raw::{self, Counted, Imported, List, Swept, Written};
 
 pub type Import = fn(u64, &[u8], &mut [u8], &[u8], &[u8], &mut [u8]) -> Imported;
 
@@ -23,6 +23,7 @@ pub struct Engine {
     pub update: fn(u64, &mut [u8], &[u8], &[u8]) -> Counted,
     pub in_order: fn(&[u8]) -> bool,
     pub write: fn(&List, &mut [u8]) -> Written,
+    pub sweep: fn(&mut [u8], &[u8]) -> Swept,
 }
 
 pub const ENGINES: &[Engine] = &[
@@ -35,6 +36,7 @@ pub const ENGINES: &[Engine] = &[
         update: plain::update,
         in_order: plain::in_order,
         write: plain::write,
+        sweep: plain::sweep,
     },
     Engine {
         name: "hashed",
@@ -45,6 +47,7 @@ pub const ENGINES: &[Engine] = &[
         update: hashed::update,
         in_order: hashed::in_order,
         write: hashed::write,
+        sweep: hashed::sweep,
     },
     Engine {
         name: "proved",
@@ -55,5 +58,6 @@ pub const ENGINES: &[Engine] = &[
         update: raw::update,
         in_order: |register| raw::by_pan(register, b"0                  ").0 != 23,
         write: raw::write,
+        sweep: raw::sweep,
     },
 ];

@@ -9,9 +9,10 @@ use crate::plain::provider::{
     count_stopped, finish_read_back, finish_update, read_back_stop_to_32, stamp_told, update_stop_to_32,
 };
 use crate::plain::register::{self, after, Stamp, SLOT};
+use crate::plain::sweep::sweep_by;
 use crate::plain::writer::write_by;
 use crate::plain::{confirmation, hgv, line, pairing, rows, verdict};
-use graftspindle::raw::{Counted, Imported, List, Written};
+use graftspindle::raw::{Counted, Imported, List, Swept, Written};
 
 /// The place of each PAN among slots whose PANs are all different.
 fn places<'a>(slots: &[&'a [u8]]) -> HashMap<&'a [u8], usize> {
@@ -152,4 +153,8 @@ pub fn update(mode: u64, copy: &mut [u8], hgv: &[u8], hgc: &[u8]) -> Counted {
 
 pub fn write(list: &List, out: &mut [u8]) -> Written {
     write_by(list, out, pans_differ)
+}
+
+pub fn sweep(register: &mut [u8], time: &[u8]) -> Swept {
+    sweep_by(register, time, in_order)
 }
