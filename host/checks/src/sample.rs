@@ -45,6 +45,13 @@ pub fn line(i: usize) -> String {
     line
 }
 
+/// The same line with this Valid to.
+pub fn line_until(i: usize, end: &str) -> String {
+    let mut line = line(i);
+    line.replace_range(100..114, end);
+    line
+}
+
 /// The same line with a fault that the last rule of a line's own finds (L10).
 pub fn faulty_line(i: usize) -> String {
     line(i).replace("Euro6", "Euro9")

@@ -6,6 +6,7 @@ pub mod lookups;
 pub mod pans;
 pub mod plates;
 pub mod stamps;
+pub mod sweeps;
 pub mod times;
 
 use crate::sample;

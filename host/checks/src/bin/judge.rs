@@ -3,7 +3,7 @@
 //! are asked first.
 
 use graftspindle_checks::plain::register::SLOT;
-use graftspindle_checks::tried::{lookups, pans, stamps, times, trials, Trial};
+use graftspindle_checks::tried::{lookups, pans, stamps, sweeps, times, trials, Trial};
 use graftspindle_checks::vectors::{first_difference, PROGRAMS};
 use graftspindle_checks::{plain, sample};
 use std::panic::{catch_unwind, set_hook, AssertUnwindSafe};
@@ -44,7 +44,7 @@ fn by_lists() -> Option<String> {
     let of_trial = |trial: Trial| trial.as_records(plain::in_order).or_else(|| trial.as_lines(verdicts));
     let of_record = || pans::all_lengths(plain::in_order).or_else(|| stamps::all(plain::in_order));
     let of_lookup = || lookups::all(plain::by_pan, by_plate).or_else(|| times::all_times(is_real));
-    trials().find_map(of_trial).or_else(of_record).or_else(of_lookup)
+    trials().find_map(of_trial).or_else(of_record).or_else(of_lookup).or_else(|| sweeps::all(plain::sweep))
 }
 
 pub fn main() {
