@@ -7,7 +7,6 @@ ghost use Rattle.theory.specs.Keep.{sift};
 ghost use Rattle.theory.specs.Parts.{partAt};
 ghost use Rattle.theory.specs.Place.{place};
 ghost use Rattle.sizes.specs.Sizes.{slotLength};
-ghost use Rattle.lines.specs.End.{active};
 ghost use Rattle.slots.specs.Slots.{slotsOf};
 ghost use Rattle.lookups.specs.Lookup.{unlessRefused, foundAt, fitsPlate};
 ghost use Rattle.lookups.specs.Promises.{FindByPan, ByPan, FindByPlate, ByPlate};
@@ -69,13 +68,6 @@ pub fn by_pan<'a>(b: &'a [u8], key: &[u8], number: &mut u64) -> &'a [u8]
     slot_of(b, found)
 }
 
-fn is_active(r: &[u8], t: &[u8]) -> bool
-    ensures { λ a. ⌜ a ≡ active (now (t .entry)) (now (r .entry)) ⌝ }
-{
-    let end = texts::field(r, columns::VALID_TO_FROM, columns::VALID_TO_TO);
-    fields::is_zeros(end, sizes::TIME) | times::is_earlier(t, end)
-}
-
 fn fits_plate(r: &[u8], p: &[u8], n: &[u8], t: &[u8]) -> bool
     ensures { λ a. ⌜ a ≡ fitsPlate (now (p .entry)) (now (n .entry)) (now (t .entry)) (now (r .entry)) ⌝ }
 {
@@ -85,7 +77,7 @@ fn fits_plate(r: &[u8], p: &[u8], n: &[u8], t: &[u8]) -> bool
     if !texts::has_text(r, columns::NATIONALITY_FROM, columns::NATIONALITY_TO, n) {
         return false;
     }
-    is_active(r, t)
+    activity::is_active(r, t)
 }
 
 // From the last slot to the first, so that the first stands.

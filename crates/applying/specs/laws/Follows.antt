@@ -25,18 +25,14 @@ use Rattle.holdings.specs.Holdings.{stored, storedAll, others, holdings}
 use Rattle.holdings.specs.laws.Storing.{stored-held, stored-new, all-grows}
 use Rattle.upkeep.specs.Holds.{Holds}
 use Rattle.upkeep.specs.Makes.{Makes}
-use Rattle.upkeep.specs.laws.Stays.{as-it-is, replaced, added, closed}
-use Rattle.removing.specs.laws.Marks.{markBy, pick-marks}
+use Rattle.upkeep.specs.laws.Stays.{as-bytes, as-it-is, replaced, added}
+use Rattle.removing.specs.laws.Marks.{holds-without}
 use Rattle.applying.specs.Fit.{Fit}
 use Rattle.applying.specs.laws.Prepared.{prepared, prepared-stored}
 
 -- the bytes that hold the records
 abbrev bytesOf : ℕ → List (List ℕ) → List ℕ
 bytesOf n R = flat (pad slotLength n R)
-
--- what holds them is those bytes
-as-bytes : (n : ℕ) (R : List (List ℕ)) (b : List ℕ) → Holds n R b → Holds n R (bytesOf n R)
-as-bytes n R b h = rw (← h .bytes) h
 
 module _ (make : List ℕ → List ℕ) (n : ℕ) where
   -- one line stored
@@ -77,18 +73,13 @@ module _ (make : List ℕ → List ℕ) (n : ℕ) where
       let S : List (List ℕ) = stored (make l) R in
       holds-all ks S (bytesOf n S) (holds-stored l k R b h (omega (arith, all-grows (map make ls) S))) m
 
--- records gone, those for which a test holds
-pub holds-without : (n : ℕ) (p : List ℕ → Bool) (R : List (List ℕ)) (b : List ℕ) → Holds n R b → Holds n (sift (λ r. not (p r)) R) (bytesOf n (sift (λ r. not (p r)) R))
-holds-without n p R b h =
-    rw (← pick-marks p R) (as-bytes n _ _ (rw (h .many, h .held) at (closed b (h .order) (map (markBy p) R))))
-
 module _ (mode : ℕ) (who : List ℕ) (make : List ℕ → List ℕ) (b : List ℕ) (ls : List (List ℕ)) (o : inOrder b ≡ true) (f : Fit mode who make (slotsIn b) (records b) ls) where
   prepared-holds : Holds (slotsIn b) (prepared mode who (records b)) (bytesOf (slotsIn b) (prepared mode who (records b)))
   unfolding prepared others
   prepared-holds = go (isFull mode)
     where
       go : (t : Bool) → Holds (slotsIn b) (cond t (others who (records b)) (records b)) (bytesOf (slotsIn b) (cond t (others who (records b)) (records b)))
-      go true = holds-without (slotsIn b) (ofActor who) (records b) b (as-it-is b o)
+      go true = holds-without (ofActor who) (slotsIn b) (records b) b (as-it-is b o)
       go false = as-bytes (slotsIn b) (records b) b (as-it-is b o)
 
   -- the register that holds what follows is in order

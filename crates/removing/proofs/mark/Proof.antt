@@ -6,7 +6,7 @@ use lib.ListN.{length}
 use Rattle.theory.specs.laws.Parts.{part-fits}
 use Rattle.sizes.specs.Sizes.{slotLength}
 use Rattle.slots.specs.Search.{ofActor}
-use Rattle.removing.proofs.Removing.{Marking, marking-start, marking-turn, marking-end}
+use Rattle.removing.specs.laws.Marking.{Marking, marking-start, marking-turn, marking-end}
 use Rattle.removing.proofs.mark.Statement.{statement}
 use Rattle.removing.proofs.mark.Tie as tie
 

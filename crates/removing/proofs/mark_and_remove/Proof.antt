@@ -1,7 +1,8 @@
 -- Assumes nothing.
 use Rattle.slots.specs.laws.Slots.{used-fits}
 use borrow.Author.Needs.{needs}
-use Rattle.removing.proofs.Removing.{as-many, others-left}
+use Rattle.removing.specs.laws.Marking.{as-many}
+use Rattle.removing.proofs.Removing.{others-left}
 use Rattle.removing.proofs.mark_and_remove.Statement.{statement}
 use Rattle.removing.proofs.mark_and_remove.Tie as tie
 

@@ -1,6 +1,6 @@
 -- Assumes nothing.
 use mathlib.Core.Path.{sym, _∙_}
-use Rattle.removing.proofs.Removing.{marked-yes, marked-no}
+use Rattle.removing.specs.laws.Marks.{marked-yes, marked-no}
 use borrow.Author.Needs.{needs}
 use Rattle.removing.proofs.mark_of.Statement.{statement}
 use Rattle.removing.proofs.mark_of.Tie as tie

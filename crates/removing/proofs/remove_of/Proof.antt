@@ -2,7 +2,7 @@
 use mathlib.Core.Path.{sym, _∙_}
 use native.Mathlib.Omega.{arith}
 use lib.Seq.{length-take-le}
-use Rattle.removing.proofs.Removing.{used-within}
+use Rattle.removing.specs.laws.Marking.{used-within}
 use borrow.Author.Needs.{needs}
 use Rattle.removing.proofs.remove_of.Statement.{statement}
 use Rattle.removing.proofs.remove_of.Tie as tie

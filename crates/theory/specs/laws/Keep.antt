@@ -112,3 +112,15 @@ module _ {A : Type 0} (p q : A → Bool) where
       go true false e₁ e₂ h = absurd (true≢false (sym (g x e₁) ∙ e₂))
       go false true e₁ e₂ h = rw (e₁, h)
       go false false e₁ e₂ h = h
+
+  -- in either order
+  pub sift-swap : (xs : List A) → sift p (sift q xs) ≡ sift q (sift p xs)
+  unfolding sift onto
+  sift-swap [] = refl
+  sift-swap (x ∷ xs) = go (p x) (q x) refl refl (sift-swap xs)
+    where
+      go : (a b : Bool) → p x ≡ a → q x ≡ b → sift p (sift q xs) ≡ sift q (sift p xs) → sift p (onto b x (sift q xs)) ≡ sift q (onto a x (sift p xs))
+      go true true e₁ e₂ h = rw (e₁, e₂, h)
+      go true false e₁ e₂ h = rw (e₂, h)
+      go false true e₁ e₂ h = rw (e₁, h)
+      go false false e₁ e₂ h = h

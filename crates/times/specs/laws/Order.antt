@@ -38,6 +38,27 @@ neither (x ∷ a) (y ∷ b) h k =
     (rw (eq-eqb x y e) at (or-right (ltb x y) (eqb x y && earlier a b) h))
     (rw (eq-eqb y x (sym e)) at (or-right (ltb y x) (eqb y x && earlier b a) k)))
 
+-- what is later than a time is later than every time before it
+pub since : (a b c : List ℕ) → earlier b a ≡ false → earlier b c ≡ true → earlier a c ≡ true
+unfolding earlier
+since a b [] h k = absurd (false≢true k)
+since [] b (z ∷ c) h k = refl
+since (x ∷ a) [] (z ∷ c) h k = absurd (true≢false h)
+since (x ∷ a) (y ∷ b) (z ∷ c) h k = go (ltb y z) (ltb x y) refl refl k (since a b c)
+  where
+    up : x ≤ y
+    up = ltb-false y x (or-left (ltb y x) (eqb y x && earlier b a) h)
+
+    go : (s t : Bool) → ltb y z ≡ s → ltb x y ≡ t → s || eqb y z && earlier b c ≡ true → (earlier b a ≡ false → earlier b c ≡ true → earlier a c ≡ true)
+        → ltb x z || eqb x z && earlier a c ≡ true
+    go true t f l g ih = rw (lt-ltb x z (omega (arith, up, ltb-true y z f)))
+    go false true f l g ih = rw (lt-ltb x z (omega (arith, ltb-true x y l, eqb-true y z (and-left (eqb y z) (earlier b c) g))))
+    go false false f l g ih =
+        let d : x ≡ y = omega (arith, up, ltb-false x y l) in
+        let e : x ≡ z = d ∙ eqb-true y z (and-left (eqb y z) (earlier b c) g) in
+        rw (le-ltb x z (omega (arith, e)), eq-eqb x z e)
+        (ih (rw (eq-eqb y x (sym d)) at (or-right (ltb y x) (eqb y x && earlier b a) h)) (and-right (eqb y z) (earlier b c) g))
+
 -- ---- digits that come earlier write a smaller number
 
 -- two texts of digits of one length

@@ -62,6 +62,10 @@ holds : (n : ℕ) {R : List (List ℕ)} → Each (λ r. length r ≡ slotLength)
     → (b : List ℕ) → b ≡ flat (pad slotLength n R) → Holds n R b
 holds n z u d l m b e = record { order = rw e (order-pad n z l u d m); held = rw e (records-pad n z l u); bytes = e; many = rw e (slots-pad n z l) }
 
+-- what holds them is their bytes and free slots
+pub as-bytes : (n : ℕ) (R : List (List ℕ)) (b : List ℕ) → Holds n R b → Holds n R (flat (pad slotLength n R))
+as-bytes n R b h = rw (← h .bytes) h
+
 module _ (b : List ℕ) (h : inOrder b ≡ true) where
   o : Ordered b
   o = ordered b h

@@ -1,8 +1,8 @@
 -- Assumes nothing.
 use borrow.Author.Needs.{needs}
 use Rattle.lines.specs.End.{active}
-use Rattle.lookups.proofs.is_active.Statement.{statement}
-use Rattle.lookups.proofs.is_active.Tie as tie
+use Rattle.activity.proofs.is_active.Statement.{statement}
+use Rattle.activity.proofs.is_active.Tie as tie
 
 returns : tie.Need-returns
 unfolding active

@@ -1,0 +1,3 @@
+pub mod Sweep
+pub mod Promises
+pub mod laws

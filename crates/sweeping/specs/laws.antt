@@ -1,0 +1,2 @@
+pub mod Sweep
+pub mod Outcomes
