@@ -13,6 +13,7 @@ pub mod pair;
 pub mod question;
 pub mod rng;
 pub mod sequence;
+pub mod sweeping;
 pub mod world;
 
 pub use case::{case, Case};
@@ -20,4 +21,5 @@ pub use giving::{giving, large_giving, Giving};
 pub use large::large;
 pub use pair::{pair, Pair};
 pub use question::{question, Question};
-pub use sequence::{sequence, start, Event};
+pub use sequence::{sequence, start, Event, Import};
+pub use sweeping::{sweeping, Sweeping};

@@ -24,10 +24,18 @@ mod pairing;
 mod provider;
 #[path = "definition/registers.rs"]
 mod registers;
+#[path = "definition/sequences.rs"]
+mod sequences;
 #[path = "definition/size.rs"]
 mod size;
 #[path = "definition/stamps.rs"]
 mod stamps;
+#[path = "definition/steps.rs"]
+mod steps;
+#[path = "definition/sweeping.rs"]
+mod sweeping;
+#[path = "definition/swept.rs"]
+mod swept;
 #[path = "definition/thin.rs"]
 mod thin;
 #[path = "definition/vectors.rs"]

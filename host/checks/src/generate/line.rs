@@ -41,7 +41,7 @@ pub fn reception(rng: &mut Rng) -> Vec<u8> {
 }
 
 /// The last digits moved by one second, for a time that has room for it.
-fn second_beside(time: &[u8], later: bool) -> Vec<u8> {
+pub fn second_beside(time: &[u8], later: bool) -> Vec<u8> {
     let mut beside = time.to_vec();
     let second = (time[12] - b'0') * 10 + (time[13] - b'0');
     let second = if later { (second + 1).min(59) } else { second.saturating_sub(1) };

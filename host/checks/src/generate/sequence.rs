@@ -1,4 +1,4 @@
-//! Imports one after the other, by several providers, into one register.
+//! Imports by several providers into one register, one after the other, and sweeps of it in between.
 
 use super::case::{lines, repeat_held};
 use super::damage::{change_one_byte, wrong_mode, wrong_time};
@@ -6,11 +6,13 @@ use super::file::{header, hgv, register, slots};
 use super::full::{full_list, pans_of};
 use super::line::reception;
 use super::rng::Rng;
+use super::sweeping::time;
 use super::world::World;
 use crate::plain;
 
+/// What is handed over beside the register.
 #[derive(Debug, Clone, PartialEq, Eq)]
-pub struct Event {
+pub struct Import {
     pub mode: u64,
     pub reception: Vec<u8>,
     pub rows: Vec<u8>,
@@ -18,8 +20,42 @@ pub struct Event {
     pub hgc_len: usize,
 }
 
+impl Import {
+    pub fn sender(&self) -> &[u8] {
+        &self.hgv[1..7]
+    }
+}
+
+#[derive(Debug, Clone, PartialEq, Eq)]
+pub enum Event {
+    Import(Import),
+    /// At this time.
+    Sweep(Vec<u8>),
+}
+
+impl Event {
+    pub fn import(&self) -> Option<&Import> {
+        match self {
+            Event::Import(import) => Some(import),
+            Event::Sweep(_) => None,
+        }
+    }
+
+    /// The register after it.
+    fn happen(&self, register: &mut [u8]) {
+        match self {
+            Event::Import(Import { mode, reception, rows, hgv, hgc_len }) => {
+                plain::import(*mode, reception, register, rows, hgv, &mut vec![0; *hgc_len]);
+            }
+            Event::Sweep(time) => {
+                plain::sweep(register, time);
+            }
+        }
+    }
+}
+
 /// A full list of a sender who has records has mostly their accounts, or some of them.
-fn event(rng: &mut Rng, world: &World, register: &[u8]) -> Event {
+fn import(rng: &mut Rng, world: &World, register: &[u8]) -> Import {
     let sender = world.actor(rng);
     let reception = reception(rng);
     let mut header = header(rng, &sender);
@@ -35,18 +71,29 @@ fn event(rng: &mut Rng, world: &World, register: &[u8]) -> Event {
         repeat_held(rng, &mut lines, register, &sender);
     }
     let hgc_len = 174 + 130 * lines.len();
-    Event { mode, reception, rows: world.bytes(), hgv: hgv(&header, &lines), hgc_len }
+    Import { mode, reception, rows: world.bytes(), hgv: hgv(&header, &lines), hgc_len }
 }
 
-/// A few events that are refused, each for one thing.
-fn spoil(rng: &mut Rng, event: &mut Event) {
+/// A few imports that are refused, each for one thing.
+fn spoil(rng: &mut Rng, import: &mut Import) {
     match rng.below(5) {
-        0 => event.mode = wrong_mode(rng),
-        1 => event.reception = wrong_time(rng),
-        2 => event.rows.truncate(event.rows.len() - 1),
-        3 => change_one_byte(rng, &mut event.hgv),
-        _ => event.hgc_len = rng.below(event.hgc_len),
+        0 => import.mode = wrong_mode(rng),
+        1 => import.reception = wrong_time(rng),
+        2 => import.rows.truncate(import.rows.len() - 1),
+        3 => change_one_byte(rng, &mut import.hgv),
+        _ => import.hgc_len = rng.below(import.hgc_len),
     }
+}
+
+fn event(rng: &mut Rng, world: &World, register: &[u8]) -> Event {
+    if rng.one_in(4) {
+        return Event::Sweep(if rng.one_in(6) { wrong_time(rng) } else { time(rng, register) });
+    }
+    let mut import = import(rng, world, register);
+    if rng.one_in(6) {
+        spoil(rng, &mut import);
+    }
+    Event::Import(import)
 }
 
 /// The register that a sequence begins with: free, or with records of before, some of which are over a limit of weight. It has
@@ -65,13 +112,9 @@ pub fn sequence(seed: u64) -> Vec<Event> {
     let mut rng = Rng::new(seed);
     let mut world = World::new(&mut rng);
     let (mut events, mut register) = (Vec::new(), start(seed));
-    for _ in 0..rng.between(1, 14) {
-        let mut event = event(&mut rng, &world, &register);
-        if rng.one_in(6) {
-            spoil(&mut rng, &mut event);
-        }
-        let Event { mode, reception, rows, hgv, hgc_len } = &event;
-        plain::import(*mode, reception, &mut register, rows, hgv, &mut vec![0; *hgc_len]);
+    for _ in 0..rng.between(1, 18) {
+        let event = event(&mut rng, &world, &register);
+        event.happen(&mut register);
         events.push(event);
         if rng.one_in(8) && world.rows.len() > 1 {
             let gone = rng.below(world.rows.len());

@@ -1,13 +1,11 @@
 //! All implementations on the generator's inputs, and what the generator reaches.
 
 use crate::common::*;
-use graftspindle::raw::{Counted, Imported};
-use graftspindle_checks::generate::{case, pair, question, sequence, start, Case, Event};
+use graftspindle_checks::generate::file::used;
+use graftspindle_checks::generate::{case, pair, question, sweeping, Case};
 use graftspindle_checks::plain::register::SLOT;
 use graftspindle_checks::plain::{clauses_of_52, rules_broken, CLAUSES};
-use std::collections::BTreeMap;
-
-const SEQUENCES: u64 = 2_000;
+use std::cmp::Ordering::{Equal, Greater, Less};
 
 fn run_case(engine: &Engine, case: &Case) -> Outcome {
     run(engine, case.mode, &case.reception, &case.register, &case.rows, &case.hgv, case.hgc_len)
@@ -104,65 +102,33 @@ fn updates() {
     assert_reached("update's clauses of 52, alone", &alone, CLAUSES.to_vec());
 }
 
-fn import_event(engine: &Engine, register: &[u8], event: &Event) -> Outcome {
-    let Event { mode, reception, rows, hgv, hgc_len } = event;
-    run(engine, *mode, reception, register, rows, hgv, *hgc_len)
-}
-
-/// The provider reads his confirmation back and applies it; nothing is refused.
-fn apply(engine: &Engine, event: &Event, outcome: &Outcome, copy: &mut [u8]) {
-    let told = verdicts(engine, &event.hgv, outcome);
-    let Imported { taken, rejected, .. } = outcome.answer;
-    assert_eq!(told.iter().filter(|&&verdict| verdict == 0).count() as u64, taken);
-    let applied = (engine.update)(event.mode, copy, &event.hgv, &outcome.hgc);
-    assert_eq!(applied, Counted { number: 0, taken, rejected });
-}
-
-/// What a sequence leaves: the outcome of each import, and each provider's copy.
-type Left = (Vec<Outcome>, BTreeMap<Vec<u8>, Vec<u8>>);
-
-/// A provider who holds our records of him, those of before too, and applies each confirmation he gets, holds them again.
-fn follow(engine: &Engine, seed: u64) -> Left {
-    let mut register = start(seed);
-    let (mut outcomes, mut copies) = Left::default();
-    for event in sequence(seed) {
-        let outcome = import_event(engine, &register, &event);
-        if outcome.answer.number == 0 {
-            let actor = &event.hgv[1..7];
-            let copy = copies.entry(actor.to_vec()).or_insert_with(|| copy_expected(&register, actor));
-            apply(engine, &event, &outcome, copy);
-        }
-        register.clone_from(&outcome.register);
-        outcomes.push(outcome);
-        for (actor, copy) in &copies {
-            assert!(*copy == copy_expected(&register, actor), "{}, seed {seed}", engine.name);
-        }
+/// What went of a register: nothing of it, some of its records, or all.
+fn share(removed: usize, used: usize) -> &'static str {
+    match removed {
+        0 => "none",
+        all if all == used => "all",
+        _ => "some",
     }
-    (outcomes, copies)
-}
-
-/// How many imports stop with 35 that have an accepted one of the same sender before them and another behind them.
-fn thin_between(events: &[Event], outcomes: &[Outcome]) -> u64 {
-    let told = |(event, outcome): (&Event, &Outcome)| (event.hgv[1..7].to_vec(), outcome.answer.number);
-    let told: Vec<(Vec<u8>, u64)> = events.iter().zip(outcomes).map(told).collect();
-    let is_between = |(at, (sender, number)): &(usize, &(Vec<u8>, u64))| {
-        let accepted = (sender.clone(), 0);
-        *number == 35 && told[..*at].contains(&accepted) && told[at + 1..].contains(&accepted)
-    };
-    told.iter().enumerate().filter(is_between).count() as u64
 }
 
 #[test]
-fn sequences() {
-    let (mut numbers, mut heavy, mut between) = (Counts::new(), Counts::new(), 0);
-    for seed in 0..SEQUENCES {
-        let (outcomes, copies) = of_all(|engine| follow(engine, seed));
-        between += thin_between(&sequence(seed), &outcomes);
-        outcomes.iter().for_each(|outcome| count(&mut numbers, outcome.answer.number));
-        copies.values().for_each(|copy| count(&mut heavy, copy.chunks(SLOT).any(over_limit)));
+fn sweeps() {
+    let (mut numbers, mut shares, mut ends) = (Counts::new(), Counts::new(), Counts::new());
+    for seed in 0..SEEDS {
+        let s = sweeping(seed);
+        let (answer, after) = of_all(|engine| sweep(engine, &s.register, &s.time));
+        count(&mut numbers, answer.number);
+        if answer.number != 0 {
+            continue;
+        }
+        assert!(of_all(|engine| (engine.in_order)(&after)), "seed {seed}");
+        let (before, removed) = (used(&s.register).count(), answer.removed as usize);
+        assert_eq!((used(&after).count(), after.len()), (before - removed, s.register.len()), "seed {seed}");
+        count(&mut shares, share(removed, before));
+        let in_minute = used(&s.register).map(|slot| &slot[100..114]).filter(|end| end[..12] == s.time[..12]);
+        in_minute.for_each(|end| count(&mut ends, end.cmp(&s.time)));
     }
-    println!("sequences' numbers: {numbers:?}, {between} of 35 between accepted lists of the sender");
-    assert_reached("copies with a record over a limit of weight", &heavy, vec![false, true]);
-    assert!([0, 21, 22, 24, 28, 33, 34, 35].iter().all(|number| numbers[number] >= 10));
-    assert!(between >= 200, "{between}");
+    assert_reached("sweep's numbers", &numbers, vec![0, 22, 23]);
+    assert_reached("what went", &shares, vec!["none", "some", "all"]);
+    assert_reached("ends within a minute of the time", &ends, vec![Less, Equal, Greater]);
 }

@@ -1,6 +1,6 @@
 //! The shorthand of the cases.
 
-use graftspindle::raw::{Counted, Imported, List, Written};
+use graftspindle::raw::{Counted, Imported, List, Swept, Written};
 pub use graftspindle_checks::engines::{Engine, ENGINES};
 use graftspindle_checks::plain::line::{breaks_l10, record_rules_hold};
 use graftspindle_checks::plain::register::SLOT;
@@ -123,6 +123,17 @@ pub fn run(
         assert_eq!(answer.length, 174 + 130 * answer.rejected);
     }
     Outcome { answer, register: after, hgc: buffer[..length].to_vec() }
+}
+
+/// Sweeps a register and checks what every sweep owes it: the answer, and the register after it.
+pub fn sweep(engine: &Engine, register: &[u8], time: &[u8]) -> (Swept, Vec<u8>) {
+    let mut after = register.to_vec();
+    let answer = (engine.sweep)(&mut after, time);
+    if answer.number != 0 || answer.removed == 0 {
+        assert!(after == register, "{}: bytes are written where nothing goes", engine.name);
+        assert_eq!(answer.removed, 0, "{}", engine.name);
+    }
+    (answer, after)
 }
 
 /// Mode 1 at R0 with ROW0 and room enough.

@@ -1,8 +1,9 @@
 //! "Which file touched this account?" Each slot has the list sequence and the reception of the file whose line it holds.
 
 use crate::common::*;
+use crate::steps::Step;
 use graftspindle::raw::Counted;
-use graftspindle_checks::generate::{question, sequence, start, Event};
+use graftspindle_checks::generate::{question, sequence, start, Event, Import};
 use graftspindle_checks::plain::register::SLOT;
 use graftspindle_checks::sample;
 use graftspindle_checks::tried::{lookups, stamps};
@@ -245,10 +246,10 @@ type Deed = (&'static str, &'static str);
 
 /// "After an accepted import every record whose PAN a taken line names carries that file's list and reception, every other
 /// record the stamp that it had."
-fn assert_stamped(engine: &Engine, register: &[u8], event: &Event, outcome: &Outcome) -> Vec<Deed> {
-    let named = touched(engine, &event.hgv, outcome);
+fn assert_stamped(engine: &Engine, register: &[u8], import: &Import, outcome: &Outcome) -> Vec<Deed> {
+    let named = touched(engine, &import.hgv, outcome);
     let earlier: Vec<&[u8]> = used(register).collect();
-    let own = stamp(&event.hgv[13..32], &event.reception);
+    let own = stamp(&import.hgv[13..32], &import.reception);
     let deed = |(place, slot): (usize, &[u8])| {
         let stood = earlier.iter().position(|held| pan_of(held) == pan_of(slot));
         if named.contains(&pan_of(slot)) {
@@ -269,12 +270,14 @@ fn touched_and_left() {
         let told = of_all(|engine| {
             let (mut register, mut told) = (start(seed), Vec::new());
             for event in sequence(seed) {
-                let Event { mode, reception, rows, hgv, hgc_len } = &event;
-                let outcome = run(engine, *mode, reception, &register, rows, hgv, *hgc_len);
-                if outcome.answer.number == 0 {
-                    told.extend(assert_stamped(engine, &register, &event, &outcome));
+                let step = Step::of(engine, &register, &event);
+                match (&event, &step) {
+                    (Event::Import(import), Step::Imported(outcome)) if step.number() == 0 => {
+                        told.extend(assert_stamped(engine, &register, import, outcome));
+                    }
+                    _ => assert!(used(step.register()).all(|slot| used(&register).any(|held| held == slot))),
                 }
-                register = outcome.register;
+                register = step.register().to_vec();
             }
             told
         });
