@@ -9,7 +9,10 @@ use graftspindle_checks::plain::register::SLOT;
 use graftspindle_checks::sample;
 
 const LINES: usize = 8192;
-const CALLS: [&str; 5] = ["import", "lookup", "read back", "update", "write"];
+const CALLS: [&str; 6] = ["import", "lookup", "read back", "update", "sweep", "write"];
+
+/// Of every second record of a register that is swept: one that has come by the sample's reception, and none.
+const ENDS: [&str; 2] = ["20250310050000", "00000000000000"];
 
 /// A thread's stack is made of pages of so many KiB, and needs fewer than this number of them.
 const PAGE: usize = 4;
@@ -39,6 +42,10 @@ fn prepared(call: &str) -> Call {
         }
         "read back" => Box::new(move || raw::read_back(&hgv, &hgc, &mut vec![0; LINES]).taken == taken),
         "update" => Box::new(move || raw::update(2, &mut register, &hgv, &hgc).taken == taken),
+        "sweep" => {
+            let mut ended = sample::slots((0..LINES).map(|i| sample::line_until(i, ENDS[i % 2])));
+            Box::new(move || raw::sweep(&mut ended, sample::RECEPTION).removed == taken / 2)
+        }
         _ => {
             let (accounts, mut out) = (sample::accounts(LINES), vec![0; hgv.len()]);
             Box::new(move || raw::write(&sample::list(&rows, &accounts), &mut out).number == 0)

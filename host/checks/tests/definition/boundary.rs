@@ -93,6 +93,23 @@ fn write() {
     assert!(short == [7; 575]);
 }
 
+#[test]
+fn sweep() {
+    let swept = |register: &[u8], time: &[u8]| {
+        let (mut after, mut other) = (register.to_vec(), register.to_vec());
+        let done = raw::sweep(&mut after, time);
+        assert_eq!(done, plain::sweep(&mut other, time));
+        assert!(after == other);
+        (done.number, done.removed, after)
+    };
+    let mut register = imported();
+    register[SLOT + 100..SLOT + 114].copy_from_slice(sample::RECEPTION);
+    let left = [&register[..SLOT], &register[2 * SLOT..], &[0; SLOT]].concat();
+    assert_eq!(swept(&register, sample::RECEPTION), (0, 1, left));
+    assert_eq!(swept(&register, &sample::RECEPTION[1..]), (22, 0, register.clone()));
+    assert_eq!(swept(&register[1..], sample::RECEPTION), (23, 0, register[1..].to_vec()));
+}
+
 /// The largest files and registers, on a thread with a stack of 128 KiB.
 #[test]
 fn small_stack() {
@@ -104,10 +121,11 @@ fn small_stack() {
         let again = raw::import(1, sample::RECEPTION, &mut register, &rows, &hgv, &mut hgc).taken;
         let read = raw::read_back(&hgv, &hgc, &mut verdicts).taken;
         let updated = raw::update(1, &mut copy, &hgv, &hgc).taken;
-        (taken, again, read, updated, copy == register)
+        let swept = raw::sweep(&mut copy, sample::RECEPTION).removed;
+        (taken, again, read, updated, swept, copy == register)
     };
     let thread = std::thread::Builder::new().stack_size(128 * 1024).spawn(calls);
-    assert_eq!(thread.expect("a thread").join().expect("it ends"), (8192, 8192, 8192, 8192, true));
+    assert_eq!(thread.expect("a thread").join().expect("it ends"), (8192, 8192, 8192, 8192, 0, true));
 }
 
 /// The largest lists on the same stack: one that is written, and one whose last PAN is its first.

@@ -181,6 +181,33 @@ fn writings(size: usize) -> Vec<Case> {
     [("", sample::accounts(size)), (", PANs scattered", scattered(size))].into_iter().map(case).collect()
 }
 
+fn sweep(engine: &Engine, case: &Case, blocks: &mut [Vec<u8>]) -> [u64; 4] {
+    let done = (engine.sweep)(&mut blocks[0], &case.read[0]);
+    [done.number, done.removed, 0, 0]
+}
+
+/// Full registers: in the first two every second record has an end, and the time is at it or before it.
+fn sweeps(size: usize) -> Vec<Case> {
+    const END: &str = "20250310050000";
+    let all = |i| sample::line_until(i, END);
+    let half = |i: usize| if i.is_multiple_of(2) { all(i) } else { sample::line(i) };
+    let kinds: [(&str, Vec<u8>, &str, usize); 3] = [
+        ("half ended", sample::slots((0..size).map(half)), END, size / 2),
+        ("none ended", sample::slots((0..size).map(half)), "20250310045959", 0),
+        ("all ended", sample::slots((0..size).map(all)), END, size),
+    ];
+    let case = |(kind, register, time, removed): (&str, Vec<u8>, &str, usize)| Case {
+        name: format!("sweep, {kind}"),
+        mode: 0,
+        written: vec![register],
+        read: vec![time.as_bytes().to_vec()],
+        call: sweep,
+        expected: [0, removed as u64, 0, 0],
+    };
+    kinds.into_iter().map(case).collect()
+}
+
 pub fn all(size: usize) -> Vec<Case> {
-    [imports(size), lookups(size), read_backs(size), updates(size), writings(size)].into_iter().flatten().collect()
+    let of_calls = [imports, lookups, read_backs, updates, sweeps, writings];
+    of_calls.into_iter().flat_map(|cases: fn(usize) -> Vec<Case>| cases(size)).collect()
 }
