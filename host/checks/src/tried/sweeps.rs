@@ -67,7 +67,7 @@ fn other(sweep: Sweep, before: &[u8], time: &str, (number, removed): (u64, usize
     let answer = sweep(&mut register, time.as_bytes());
     let bytes = if register == after { "the right bytes" } else { "other bytes" };
     let right = answer == Swept { number, removed: removed as u64 } && register == after;
-    (!right).then(|| format!("sweep: at {time}: {answer:?}, {bytes}"))
+    (!right).then(|| format!("sweep: at {time}: number {}, {} went, {bytes}", answer.number, answer.removed))
 }
 
 /// At each time those go that have ended by then, in a full register and with free slots.
