@@ -1,4 +1,4 @@
-//! The journal for the audit: a line of JSON for each import, update and refusal, appended and synced.
+//! The journal for the audit: a line of JSON for each import, update, sweep and refusal, appended and synced.
 
 use std::fs::{File, OpenOptions};
 use std::io::{self, Read, Seek, SeekFrom, Write};

@@ -19,6 +19,7 @@ pub mod options;
 mod read_back;
 mod refusal;
 mod register;
+mod sweep;
 mod texts;
 mod told;
 mod totals;
@@ -66,13 +67,14 @@ impl Command {
     }
 }
 
-static COMMANDS: [&Command; 17] = [
+static COMMANDS: [&Command; 18] = [
     &import::IMPORT,
     &lookup::PAN,
     &lookup::PLATE,
     &read_back::READ_BACK,
     &by_field::EXPLAIN,
     &update::UPDATE,
+    &sweep::SWEEP,
     &write::WRITE,
     &register::new::NEW,
     &register::show::SHOW,

@@ -50,6 +50,8 @@ mod stamps;
 mod steps;
 #[path = "command/streams.rs"]
 mod streams;
+#[path = "command/sweeping.rs"]
+mod sweeping;
 #[path = "command/tables.rs"]
 mod tables;
 #[path = "command/thin.rs"]

@@ -1,5 +1,5 @@
 //! `demo`: three providers send whitelists, two of them written from CSV files, and one provider follows what is held for
-//! him.
+//! him, a sweep too.
 
 use std::ffi::OsString;
 use std::fs::{self, OpenOptions};
@@ -19,8 +19,8 @@ pub static DEMO: Command = Command {
     words: &["[FOLDER]"],
     help: "\
 Makes a small register, writes the whitelists of two providers from CSV files, imports these and a third provider's into
-it, applies the confirmations to one provider's copy and compares the copy with the records held for him. Works in FOLDER
-and leaves its files there, or in a folder that goes again.
+it, applies the confirmations to one provider's copy, sweeps both and compares the copy with the records held for him. Works
+in FOLDER and leaves its files there, or in a folder that goes again.
 ",
     run,
 };
@@ -34,7 +34,7 @@ const FILES: [(&str, &[u8]); 5] = [
 ];
 
 /// What is said, and the commands, in their order. A word that names a file of the demo begins with `/`.
-const STORY: [(&str, &[&str]); 12] = [
+const STORY: [(&str, &[&str]); 13] = [
     ("The issuers that are accepted, three providers", &["issuers from-ait --issuers /rows /issuers.ait"]),
     (
         "Two providers write their lists from spreadsheets; 900123 has a program of his own, which makes mistakes",
@@ -81,6 +81,10 @@ const STORY: [(&str, &[&str]); 12] = [
     ),
     ("The register then", &["register show --at 20250312080000 /register"]),
     ("Which file touched how many of its accounts", &["register show --lists /register"]),
+    (
+        "Ended accounts are swept out, and he sweeps his copy at the same time",
+        &["sweep --at 20250401000000 /register", "sweep --at 20250401000000 /copy"],
+    ),
 ];
 
 fn words(command: &str, folder: &Path) -> Vec<OsString> {

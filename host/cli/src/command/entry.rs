@@ -1,4 +1,4 @@
-//! What the journal for the audit is told of an import or update, and what an import can tell from it.
+//! What the journal for the audit is told of a command that changes a register or copy, and what an import can tell from it.
 
 use super::arguments::Arguments;
 use super::json::{Fields, Json};
@@ -6,7 +6,7 @@ use super::options::JOURNAL;
 use super::{clock, texts, warn, Answer, Refusal};
 use crate::audit::{self, Journal};
 use crate::digest;
-use crate::files::Held;
+use crate::files::{Fault, Held};
 
 /// The line of one command, as far as it has come.
 #[derive(Default)]
@@ -49,6 +49,17 @@ impl<'a> Entry<'a> {
         self.say("list", texts::list(bytes));
         self.say("previous", texts::previous(bytes));
         self.digest("hgv", bytes);
+    }
+
+    /// Makes the register or copy new, and says these counts where it then counts.
+    pub fn replace(&mut self, held: Held<'a>, after: &[u8], counts: &[(&'static str, u64)]) -> Result<(), Fault> {
+        let replaced = held.replace(after, None);
+        if matches!(replaced, Ok(()) | Err(Fault::Counts(_))) {
+            counts.iter().for_each(|&(name, count)| self.say(name, count));
+            self.digest("after", after);
+        }
+        self.hold(held);
+        replaced
     }
 
     fn told(&self, name: &str) -> &str {

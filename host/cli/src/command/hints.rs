@@ -85,6 +85,11 @@ pub fn of_copy(name: &str, bytes: &[u8]) -> Refusal {
     of_disorder(name, bytes, "copy", "the next full list and its HGC")
 }
 
+/// Of one or the other.
+pub fn of_either(name: &str, bytes: &[u8]) -> Refusal {
+    of_disorder(name, bytes, "register or copy", "full lists")
+}
+
 fn of_disorder(name: impl Display, bytes: &[u8], what: &str, with: &str) -> Refusal {
     let way_on = match slots_before_stamps(bytes) {
         None => String::new(),
@@ -104,8 +109,14 @@ fn slots_before_stamps(bytes: &[u8]) -> Option<usize> {
     (whole(RECORD) && !whole(SLOT) && slots <= SLOTS_MOST).then_some(slots)
 }
 
-/// How many slots are short: the same is tried on a register with as many free slots behind it as there can be.
-pub fn of_slots(name: &str, bytes: &[u8], again: impl FnOnce(&mut Register) -> Result<(), Number>) -> Refusal {
+/// How many slots are short: the same is tried on a register with as many free slots behind it as there can be. Of a register
+/// the time of reception is given, and what a sweep then would free is told; a copy is swept where the register was.
+pub fn of_slots(
+    name: &str,
+    bytes: &[u8],
+    received: Option<&[u8]>,
+    again: impl Fn(&mut Register) -> Result<(), Number>,
+) -> Refusal {
     let slots = bytes.len() / SLOT;
     let mut largest = Register::from_bytes([bytes, &vec![0; SLOTS_MOST * SLOT - bytes.len()]].concat());
     let has = format!("{name} has {}", parts(slots, "slot"));
@@ -118,7 +129,20 @@ pub fn of_slots(name: &str, bytes: &[u8], again: impl FnOnce(&mut Register) -> R
             format!("{has}; {short} more {verb} needed: graftspindle register grow --slots {used} {name}")
         }
     };
-    Refusal::Number(Number::Slots, words)
+    let sweep = match received {
+        Some(time) => of_sweep(name, bytes, time, again),
+        None => "; where the register was swept before this list, sweep the copy at the same time first".to_string(),
+    };
+    Refusal::Number(Number::Slots, format!("{words}{sweep}"))
+}
+
+/// How many slots a sweep would free, and whether they suffice: the same is tried on the swept register.
+fn of_sweep(name: &str, bytes: &[u8], time: &[u8], again: impl Fn(&mut Register) -> Result<(), Number>) -> String {
+    let mut swept = Register::from_bytes(bytes.to_vec());
+    let Ok(removed @ 1..) = swept.sweep(time) else { return String::new() };
+    let (ended, at) = (parts(removed as usize, "record"), texts::shown(time));
+    let room = if again(&mut swept).is_ok() { "room enough" } else { "too little room" };
+    format!("; {ended} had ended by {at}: graftspindle sweep --at {at} {name} makes {room}")
 }
 
 /// How thin a full list is: the same is tried on a register with free slots in place of the sender's records. Each line is

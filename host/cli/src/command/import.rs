@@ -67,7 +67,10 @@ fn explained(number: Number, import: &Import, names: &Names, register: &[u8]) ->
         Number::Order => hints::of_order(names.register, register),
         Number::Rows => Refusal::Number(number, rows.name.clone()),
         Number::Parties => hints::of_parties(hgv, rows),
-        Number::Slots => hints::of_slots(names.register, register, |largest| largest.import(import).map(|_| ())),
+        Number::Slots => {
+            let again = |register: &mut Register| register.import(import).map(|_| ());
+            hints::of_slots(names.register, register, Some(import.reception), again)
+        }
         Number::ThinList => {
             hints::of_thin(names.register, register, hgv, |without| without.import(import).map(|(counts, _)| counts))
         }

@@ -81,14 +81,14 @@ option!(ISSUERS, "issuers", "ROWS", Kind::File, "The issuer rows, 24 bytes each.
 option!(MODE, "mode", "incremental|full", Kind::OneOf(MODES), "The mode of the list.");
 option!(RECEIVED, "received", MOMENT, Kind::Text, "The moment of reception, UTC; the present one unless given.");
 option!(HGC, "hgc", "OUT", Kind::File, "Where the confirmation is written.");
-option!(AT, "at", MOMENT, Kind::Text, "The time that is asked for, UTC; the present one unless given.");
+option!(AT, "at", MOMENT, Kind::Text, "The time that is asked for or swept at, UTC; the present one unless given.");
 option!(SLOTS, "slots", "N", Kind::Text, "How many slots there are.");
 option!(
     WAIT,
     "wait",
     "SECONDS",
     Kind::Text,
-    "How long another import is waited for; as long as it takes unless given."
+    "How long another command that holds the file is waited for; as long as it takes unless given."
 );
 option!(JOURNAL, "journal", "J", Kind::File, "The journal for the audit, which gets a line of JSON for this command.");
 option!(SENDER, "sender", "S", Kind::Text, "The provider whose list it is: six digits.");
@@ -110,6 +110,7 @@ option!(WEIGHTS, "weights", "Only the records whose weight a line of their tarif
 option!(LISTS, "lists", "Counts the records by the list that touched each last.");
 option!(REJECTED, "rejected", "Only the lines that were rejected.");
 option!(LINE_NUMBER, "line", "N", Kind::Text, "That line alone, counted from 1.");
+option!(DRY_RUN, "dry-run", "Says how many records would go, and changes nothing.");
 option!(DISCARD, "discard", "Removes what was left, with an HGC that is still owed.");
 option!(JSON, "json", "Answers by one line of JSON, at a refusal too.");
 option!(HELP, "help", "Says what the command does; -h does too.");

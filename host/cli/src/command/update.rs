@@ -6,7 +6,7 @@ use super::options::Use::{Needed, Optional};
 use super::options::{COPY, JOURNAL, MODE, WAIT};
 use super::totals::Totals;
 use super::{hints, input, mode, Answer, Command, Refusal, Told};
-use crate::files::{Disk, Fault, Held, Place};
+use crate::files::{Disk, Held, Place};
 use graftspindle::{Counts, Number, Register};
 
 pub static UPDATE: Command = Command {
@@ -40,17 +40,10 @@ fn update<'a>(disk: &'a dyn Disk, given: &Arguments, entry: &mut Entry<'a>) -> A
     let counts = update(&mut copy).map_err(|number| match number {
         Number::Order => hints::of_copy(&name, &before),
         Number::OtherActor => Refusal::Number(number, name.clone()),
-        Number::Slots => hints::of_slots(&name, &before, |largest| update(largest).map(|_| ())),
+        Number::Slots => hints::of_slots(&name, &before, None, |copy| update(copy).map(|_| ())),
         other => hints::of_pair(other, &hgv, &hgc),
     })?;
-    let replaced = held.replace(copy.bytes(), None);
-    if matches!(replaced, Ok(()) | Err(Fault::Counts(_))) {
-        entry.say("taken", counts.taken);
-        entry.say("rejected", counts.rejected);
-        entry.digest("after", copy.bytes());
-    }
-    entry.hold(held);
-    replaced?;
+    entry.replace(held, copy.bytes(), &[("taken", counts.taken), ("rejected", counts.rejected)])?;
     Ok(told(counts, &Totals::of(&hgv.bytes, &hgc.bytes)))
 }
 

@@ -173,6 +173,10 @@ fn faults_of_the_command_line() {
         "write --template --sender 900123",
         "write --template --template",
         "write --template=yes",
+        "sweep",
+        "sweep --at @register",
+        "sweep @register @register",
+        "sweep --dry-run=yes @register",
     ] {
         let before = folder.all();
         let done = graftspindle(&folder, line);
@@ -188,7 +192,7 @@ fn help_of_each() {
     let all = graftspindle(&folder, "--help");
     assert_eq!((all.status, all.fault.as_str()), (0, ""));
     let usages: Vec<&str> = all.said.lines().filter(|line| line.starts_with("  graftspindle ")).collect();
-    assert_eq!(usages.len(), 18);
+    assert_eq!(usages.len(), 19);
     for usage in usages {
         let plain = |word: &&str| word.chars().all(|c| c.is_ascii_lowercase() || c == '-') && !word.starts_with("--");
         let name: Vec<&str> = usage.split_whitespace().skip(1).take_while(plain).collect();

@@ -36,6 +36,8 @@ fn missing_file() {
         "read-back @hgv @gone",
         "issuers from-ait --issuers @fresh @gone",
         "register new --slots 1 @gone/fresh",
+        "sweep @gone",
+        "sweep --dry-run @gone",
     ] {
         assert_fault(&folder, line, &["gone", MISSING]);
     }
@@ -53,6 +55,7 @@ fn folder_in_place_of_a_file() {
     }
     assert_fault(&folder, "register new --slots 1 @folder", &["folder is not a file"]);
     assert_fault(&folder, "register show @folder", &["folder is not a file"]);
+    assert_fault(&folder, "sweep @folder", &["folder is not a file"]);
 }
 
 /// No file can be made in /proc, whoever asks.
@@ -62,6 +65,7 @@ fn folder_that_takes_no_file() {
     assert_fault(&folder, &IMPORT.replace("@hgc", "/proc/hgc"), &["cannot write /proc/hgc"]);
     assert_fault(&folder, &IMPORT.replace("@register", "/proc/version"), &["cannot make the lock /proc/version"]);
     assert_fault(&folder, "register new --slots 1 /proc/fresh", &["cannot make the lock /proc/fresh"]);
+    assert_fault(&folder, "sweep /proc/version", &["cannot make the lock /proc/version"]);
     assert_fault(
         &folder,
         &format!("issuers from-ait --issuers /proc/rows {AIT}"),

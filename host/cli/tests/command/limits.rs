@@ -32,6 +32,8 @@ fn files_without_an_end() {
     large.set_len(1 << 33).expect("a file with holes");
     assert_refused_at_once(&folder, &IMPORT.replace("@register", "@large"), 23);
     assert_refused_at_once(&folder, "register show @large", 23);
+    assert_refused_at_once(&folder, "sweep @large", 23);
+    assert_refused_at_once(&folder, "sweep --dry-run @large", 23);
     assert_refused_at_once(&folder, &IMPORT.replace("@hgc", "@large"), 1);
 }
 

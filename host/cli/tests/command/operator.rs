@@ -24,7 +24,9 @@ fn versions_and_help() {
     assert_eq!(said(&folder, "help register show"), said(&folder, "register show -h"));
     assert_eq!(said(&folder, "help"), said(&folder, "lookup --help"));
     assert_eq!(graftspindle(&folder, "help export").status, 1);
-    assert!(help.contains("--wait SECONDS") && help.contains("How long another import is waited for"));
+    assert!(
+        help.contains("--wait SECONDS") && help.contains("How long another command that holds the file is waited for")
+    );
 }
 
 #[test]
@@ -66,6 +68,8 @@ fn answers_as_json() {
         "register check --json @register",
         "register recover --json @register",
         "register grow --json --slots 8 @register",
+        "sweep --json --dry-run @register",
+        "sweep --json @register",
         "register new --json --slots 1 @fresh",
         "lookup plate --json --register @register GS0001 DE",
         "--version --json",

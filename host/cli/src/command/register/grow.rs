@@ -8,7 +8,7 @@ use crate::command::entry::{self, Entry};
 use crate::command::options::Use::{Needed, Optional};
 use crate::command::options::{JOURNAL, SLOTS, WAIT};
 use crate::command::{hints, Answer, Command, Refusal, Told};
-use crate::files::{Disk, Fault, Held, Place};
+use crate::files::{Disk, Held, Place};
 use graftspindle::Register;
 
 pub static GROW: Command = Command {
@@ -40,12 +40,7 @@ fn grow<'a>(disk: &'a dyn Disk, given: &Arguments, entry: &mut Entry<'a>) -> Ans
         return Err(Refusal::Fault(format!("{name} has {had} slots, and none is taken from a register")));
     }
     bytes.resize(free.bytes().len(), 0);
-    let replaced = held.replace(&bytes, None);
-    if matches!(replaced, Ok(()) | Err(Fault::Counts(_))) {
-        entry.digest("after", &bytes);
-    }
-    entry.hold(held);
-    replaced?;
+    entry.replace(held, &bytes, &[])?;
     let text = format!("{slots} slots in {name}, {had} before\n");
     Ok(Told::new(text).with("slots", slots).with("before", had))
 }
