@@ -13,11 +13,18 @@ fn process(line: &str, number: u64) -> Option<u64> {
     process.parse().ok().filter(|_| same)
 }
 
+/// The system hands out its locks in parts, and what others lock meanwhile can hide a line: so it is asked again.
+const TIMES: usize = 5;
+
+fn found(number: u64) -> Option<u64> {
+    let locks = fs::read_to_string("/proc/locks").unwrap_or_default();
+    locks.lines().find_map(|line| process(line, number))
+}
+
 /// Its number, its name and its user; less where the system says less.
 pub fn of(lock: &File) -> String {
     let number = lock.metadata().map(|known| known.ino()).unwrap_or_default();
-    let locks = fs::read_to_string("/proc/locks").unwrap_or_default();
-    let Some(process) = locks.lines().find_map(|line| process(line, number)) else {
+    let Some(process) = (0..TIMES).find_map(|_| found(number)) else {
         return "another process".to_string();
     };
     let folder = format!("/proc/{process}");
