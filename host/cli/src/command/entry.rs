@@ -129,7 +129,10 @@ pub fn kept<'a>(given: &Arguments, command: &'static str, work: impl FnOnce(&mut
     let line = entry.line(command, &answer);
     match (entry.journal.map_or(Ok(()), |mut journal| journal.append(&line)), answer) {
         (Ok(()), answer) => answer,
-        (Err(fault), Ok(_)) => Err(Refusal::Counts(format!("done, but the journal has no line of it: {fault}"))),
+        (Err(fault), Ok(told)) => {
+            let done = told.text.lines().next().unwrap_or("done");
+            Err(Refusal::Counts(format!("{done}; but the journal has no line of it: {fault}")))
+        }
         (Err(fault), Err(refusal)) => {
             warn(&format!("the journal has no line of this: {fault}"));
             Err(refusal)

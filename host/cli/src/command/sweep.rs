@@ -7,7 +7,7 @@ use super::entry::{self, Entry};
 use super::options::Use::Optional;
 use super::options::{AT, DRY_RUN, JOURNAL, WAIT};
 use super::{clock, hints, look, texts, Answer, Command, Refusal, Told};
-use crate::files::{Disk, Held, Place};
+use crate::files::{Disk, Fault, Held, Place};
 use graftspindle::{Number, Register};
 
 pub static SWEEP: Command = Command {
@@ -66,20 +66,28 @@ fn sweep<'a>(disk: &'a dyn Disk, given: &Arguments, entry: &mut Entry<'a>) -> An
     entry.begin(&name, &before);
     let mut register = Register::from_bytes(before);
     let removed = removed(&mut register, &time, &name)?;
-    entry.replace(held, register.bytes(), &[("removed", removed)])?;
+    let replaced = entry.replace(held, register.bytes(), &[("removed", removed)]);
+    replaced.map_err(|fault| with_time(fault, &time))?;
     Ok(told(&register, &time, removed, false))
+}
+
+/// A sweep that counts is told with its time, whatever could not be done after it: every provider needs it.
+fn with_time(fault: Fault, time: &[u8]) -> Refusal {
+    match fault {
+        Fault::Counts(words) => Refusal::Counts(format!("swept at {}: {words}", texts::shown(time))),
+        other => other.into(),
+    }
 }
 
 /// The register is the swept one.
 fn told(register: &Register, time: &[u8], removed: u64, dry_run: bool) -> Told {
     let (left, at) = (register.records().count(), texts::shown(time));
-    let (gone, stay) = (hints::parts(removed as usize, "record"), hints::parts(left, "record"));
     let text = match (dry_run, removed) {
-        (true, _) => format!("at {at} {gone} would go, {stay} would stay; nothing is changed\n"),
-        (false, 0) => format!("swept at {at}: {gone} went, {stay} stay\n"),
+        (true, _) => format!("at {at}: {removed} would go and {left} be left; nothing is changed\n"),
+        (false, 0) => format!("swept at {at}: removed 0, left {left}\n"),
         (false, _) => format!(
-            "swept at {at}: {gone} went, {stay} stay\nof a road's register: every provider has to sweep his copy at {at} too, \
-             before he applies what comes after it\n"
+            "swept at {at}: removed {removed}, left {left}\nwhere this is the road's register, every provider has to sweep his \
+             copy at {at} too, before he applies what comes after it\n"
         ),
     };
     let told = Told::new(text).with("at", at).with("removed", removed).with("left", left);

@@ -10,8 +10,8 @@ fn demo_in_a_folder_and_without_one() {
     assert_eq!((told.status, told.fault.as_str()), (0, ""));
     assert!(told.said.contains("rejected 02: PAN number not valid"));
     let swept: Vec<&str> = told.said.lines().filter(|line| line.starts_with("swept at 20250401000000: ")).collect();
-    let went = |stay: usize| format!("swept at 20250401000000: 1 record went, {stay} records stay");
-    assert_eq!(swept, [went(5), went(2)], "the register, and his copy");
+    let left = |count: usize| format!("swept at 20250401000000: removed 1, left {count}");
+    assert_eq!(swept, [left(5), left(2)], "the register, and his copy");
     let last = told.said.lines().last().expect("it says something");
     assert!(last.starts_with("The copy of provider 900123 equals the records held for him: 2 records"), "{last}");
     assert!(exists(&folder, "kept/register") && exists(&folder, "kept/900123-full.hgc"));

@@ -96,11 +96,11 @@ fn read_only_folder() {
 }
 
 /// Files may not grow beyond 512 bytes: with the signal ignored a write fails as on a full disk, else it kills.
-fn limited(folder: &Folder, ignored: bool) -> Ran {
+pub fn limited(folder: &Folder, line: &str, ignored: bool) -> Ran {
     let ignore = if ignored { "trap '' XFSZ;" } else { "" };
     let script = format!("{ignore} ulimit -f 1; exec \"$0\" \"$@\"");
     let mut command = Command::new("sh");
-    command.args(["-c", &script, program()]).args(words(folder, IMPORT));
+    command.args(["-c", &script, program()]).args(words(folder, line));
     ran(command.output().expect("a shell"))
 }
 
@@ -108,11 +108,11 @@ fn limited(folder: &Folder, ignored: bool) -> Ran {
 fn file_that_cannot_grow() {
     let folder = ready();
     let before = folder.all();
-    let done = limited(&folder, true);
+    let done = limited(&folder, IMPORT, true);
     assert_eq!(done.status, 1);
     assert!(done.fault.contains("cannot write") && done.fault.contains("File too large"), "{}", done.fault);
     assert!(folder.all() == before);
-    assert_eq!(limited(&folder, false).status, -1);
+    assert_eq!(limited(&folder, IMPORT, false).status, -1);
     assert!(folder.all() != before, "killed in the middle of a write");
     assert_eq!(graftspindle(&folder, "register show @register").status, 0);
     assert!(folder.all() == before);

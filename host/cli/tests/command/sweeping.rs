@@ -1,6 +1,7 @@
 //! `sweep`: ended records go, from a register and from a copy, as before or as after whatever stops it.
 
 use crate::common::*;
+use crate::faults::limited;
 use crate::steps::{at_each_step, at_each_step_of, Fate};
 use graftspindle::sizes::{RECORD, SLOT};
 use graftspindle_checks::sample::{self, line_until, slots};
@@ -55,9 +56,9 @@ fn said(folder: &Folder, line: &str) -> String {
     done.said
 }
 
-const TOLD: &str = "swept at 20250401000000: 3 records went, 2 records stay\n\
-                    of a road's register: every provider has to sweep his copy at 20250401000000 too, before he applies what \
-                    comes after it\n";
+const TOLD: &str = "swept at 20250401000000: removed 3, left 2\n\
+                    where this is the road's register, every provider has to sweep his copy at 20250401000000 too, before he \
+                    applies what comes after it\n";
 
 #[test]
 fn of_a_register() {
@@ -65,10 +66,10 @@ fn of_a_register() {
     assert_eq!(said(&folder, SWEEP), TOLD);
     assert!(folder.read("register") == swept());
     assert_eq!(folder.all().len(), 4, "left over: {:?}", folder.all());
-    assert_eq!(said(&folder, SWEEP), "swept at 20250401000000: 0 records went, 2 records stay\n");
+    assert_eq!(said(&folder, SWEEP), "swept at 20250401000000: removed 0, left 2\n");
     assert!(folder.read("register") == swept());
     let last = said(&folder, &SWEEP.replace(AT, AFTER));
-    assert!(last.starts_with("swept at 20250401000001: 1 record went, 1 record stay"), "{last}");
+    assert!(last.starts_with("swept at 20250401000001: removed 1, left 1\nwhere"), "{last}");
 }
 
 /// Both sides of an import, a sweep and another import: the copy is the provider's part of the register.
@@ -84,7 +85,7 @@ fn of_a_copy() {
     };
     both_sides(&[line_until(0, BEFORE), line_until(1, NO_END), line_until(2, AFTER)], "20250310050000");
     for name in ["@register", "@copy"] {
-        assert!(said(&folder, &SWEEP.replace("@register", name)).contains(": 1 record went, 2 records stay\n"));
+        assert!(said(&folder, &SWEEP.replace("@register", name)).contains(": removed 1, left 2\n"));
     }
     both_sides(&[line_until(0, NO_END), line_until(2, NO_END)], "20250402000000");
     assert!(folder.read("copy") == folder.read("register"));
@@ -99,7 +100,7 @@ fn dry_run() {
     let folder = holding();
     let line = SWEEP.replace("sweep", "sweep --dry-run");
     let before = folder.all();
-    let told = "at 20250401000000 3 records would go, 2 records would stay; nothing is changed\n";
+    let told = "at 20250401000000: 3 would go and 2 be left; nothing is changed\n";
     assert_eq!(said(&folder, &line), told);
     assert!(folder.all() == before && !exists(&folder, "register.graftspindle-lock"));
     let _held = lock::take(&Place::at(folder.path("register")), None).expect("it is free");
@@ -186,7 +187,7 @@ fn present_moment() {
     let released = clock::now();
     drop(held);
     let done = ran(waiting.wait_with_output().expect("it ends"));
-    assert!(done.status == 0 && done.fault.contains("waiting for process"), "{}", done.fault);
+    assert_eq!(done.status, 0, "{}", done.fault);
     let at = text(&done.said, "at").expect("a time").as_bytes().to_vec();
     assert!((released..=clock::now()).contains(&at), "{}", done.said);
     assert_eq!(number(&done.said, "removed"), Some(4), "{}", done.said);
@@ -213,9 +214,7 @@ fn full_disk() {
         let is_swept = folder.read("register") == swept();
         match answer {
             Ok(told) => assert!(is_swept && told == TOLD),
-            Err(fault) if fault.starts_with("2: ") => {
-                assert!(is_swept && fault.contains("counts as written"), "{fault}")
-            }
+            Err(fault) if fault.starts_with("2: swept at 20250401000000: ") => assert!(is_swept, "{fault}"),
             Err(fault) => assert!(fault.starts_with("1: ") && folder.read("register") == register(), "{fault}"),
         }
     });
@@ -261,6 +260,20 @@ fn line_of_the_journal() {
     assert!(text(&lines[0], "at").is_some_and(|at| at > AT), "when the line was written");
     assert_eq!((number(&lines[1], "status"), number(&lines[1], "removed")), (Some(22), None));
     assert_eq!((text(&lines[1], "before"), text(&lines[1], "after")), (Some(&after[..]), Some(&after[..])));
+}
+
+/// A sweep whose line the journal does not take counts, and its time is said.
+#[test]
+fn journal_that_takes_no_line() {
+    let folder = holding();
+    let [ended, active, ..] = records();
+    folder.write("register", &slots([ended, active.clone()]));
+    folder.write("journal", format!("{{{}}}\n", " ".repeat(2000)).as_bytes());
+    let done = limited(&folder, &SWEEP.replace("sweep", "sweep --journal @journal"), true);
+    assert_eq!((done.status, done.said.as_str()), (2, ""), "{}", done.fault);
+    let words = "graftspindle: 2: swept at 20250401000000: removed 1, left 1; but the journal has no line of it: ";
+    assert!(done.fault.starts_with(words), "{}", done.fault);
+    assert!(folder.read("register") == [slots([active]), vec![0; SLOT]].concat());
 }
 
 /// An import knows the register that a sweep left, and says so where the sweep left no line.
