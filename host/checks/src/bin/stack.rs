@@ -11,7 +11,7 @@ use graftspindle_checks::sample;
 const LINES: usize = 8192;
 const CALLS: [&str; 6] = ["import", "lookup", "read back", "update", "sweep", "write"];
 
-/// Of every second record of a register that is swept: one that has come by the sample's reception, and none.
+/// The ends of the records that are swept, in turn: one that is not later than the reception of the sample, and none.
 const ENDS: [&str; 2] = ["20250310050000", "00000000000000"];
 
 /// A thread's stack is made of pages of so many KiB, and needs fewer than this number of them.

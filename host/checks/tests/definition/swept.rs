@@ -4,7 +4,9 @@
 use crate::common::*;
 use graftspindle_checks::generate::file::used;
 use graftspindle_checks::generate::line::{second_beside, TIMES};
-use graftspindle_checks::generate::{question, sweeping, Sweeping};
+use graftspindle_checks::generate::rng::Rng;
+use graftspindle_checks::generate::sweeping::time;
+use graftspindle_checks::generate::{case, question, sweeping, Sweeping};
 use graftspindle_checks::plain::register::SLOT;
 use graftspindle_checks::sample;
 
@@ -169,6 +171,24 @@ fn one_providers_records() {
     }
     let expected = vec![(false, false), (false, true), (true, false), (true, true)];
     assert_reached("something of a provider went, something of others", &shares, expected);
+}
+
+/// A list that is received after the time of a sweep brings no record that a second sweep at that time would remove.
+#[test]
+fn later_lists_bring_nothing_that_has_ended() {
+    let mut imported = Counts::new();
+    for seed in 0..SEEDS / 10 {
+        let c = case(seed);
+        let time = time(&mut Rng::new(seed), &c.register);
+        if of_all(|engine| sweep(engine, &c.register, &time)).0.number != 0 || time >= c.reception {
+            continue;
+        }
+        let after = swept(&c.register, &time);
+        let outcome = of_all(|e| run(e, c.mode, &c.reception, &after, &c.rows, &c.hgv, c.hgc_len));
+        assert_eq!(of_all(|engine| sweep(engine, &outcome.register, &time)).0.removed, 0, "seed {seed}");
+        count(&mut imported, (outcome.answer.number == 0, outcome.answer.taken > 0));
+    }
+    assert_reached("accepted, with lines taken", &imported, vec![(false, false), (true, false), (true, true)]);
 }
 
 /// As many slots as before, whatever goes.

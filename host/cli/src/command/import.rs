@@ -32,8 +32,8 @@ Imports the whitelist HGV into the register R and writes the confirmation for it
 lines than half of the records held for its sender is refused (35). The moment of reception is UTC, and the present one
 unless it is given. R and OUT stand or fall together: killed at any moment, after the next command on R both are new or both
 are as they were. An HGC that is at OUT is replaced; a file of another kind is not. An import waits while another one of R
-runs. HGV or ROWS may be -, standard input. With a journal the import says where the list was imported before, or follows
-another list than the last one of its sender.
+runs, or a sweep. HGV or ROWS may be -, standard input. With a journal the import says where the list was imported before, or
+follows another list than the last one of its sender.
 ",
     run,
 };
