@@ -102,3 +102,10 @@ fn update_order() {
         });
     }
 }
+
+#[test]
+fn sweep_order() {
+    for engine in ENGINES {
+        assert_order(&[22, 23], 0, |i| sweep(engine, &i.register, &i.reception).0.number);
+    }
+}
