@@ -1,8 +1,8 @@
 -- Request 8: sweep ended accounts. Each sentence of it, and under it the theorems that say so, of any outcome that the contracts admit. That
 -- a sweep is refused by 22, then by 23, and leaves the register then, stands with the other refusals in Demand1; that demand 3 stands with
 -- sweeps, each at its place in both sequences, is Demand3 itself. Assumes nothing.
-use mathlib.Core.Path.{_≡_, sym, ap, _∙_}
-use mathlib.Core.Bool.{Bool, true, false, not}
+use mathlib.Core.Path.{_≡_, ap, _∙_}
+use mathlib.Core.Bool.{true, false, not}
 use mathlib.Core.List.{List}
 use Prim.Native.Nat.{ℕ, _+_, _≤_}
 use lib.ListN.{length}
@@ -18,7 +18,6 @@ use Rattle.header.specs.Header.{sender}
 use Rattle.hgv.specs.Layout.{linesOf}
 use Rattle.slots.specs.Slots.{slotsIn, records, usedIn}
 use Rattle.register.specs.Register.{inOrder}
-use Rattle.upkeep.specs.Holds.{Holds}
 use Rattle.lookups.specs.Promises.{ByPlate}
 use Rattle.importer.specs.declared.Imported.{Imported}
 use Rattle.importer.specs.Handed.{Handed}

@@ -57,7 +57,6 @@ use Rattle.importer.specs.Import.{judged, following, confirmed, judgedStops, st
 use Rattle.importer.specs.declared.Imported.{Imported}
 use Rattle.pairing.specs.Pairing.{isTaken, marksFrom, marks, left}
 use Rattle.receipts.specs.Receipt.{answersIn, behindHead, answersOf, lengthForm, headForm, answerForm, formHolds, namesHold, outcomeHolds, reasonHolds, textsOf, copiesOf, marksOf, takenBy, sameTexts, copiesHold, countsHold, lineHolds, takenHold, saysHold, linesHold, receiptHolds}
-use Rattle.provider.specs.declared.Counted.{Counted}
 use Rattle.provider.specs.Answer.{stopCounts, successCounts}
 use Rattle.updating.specs.Sent.{Sent, sent}
 use Rattle.updating.specs.Update.{ownHolds, copyStops, copyFollowing, receiptStops, updateNumber, updateAnswer, copyWritten, copyAfter}

@@ -34,7 +34,7 @@ use Rattle.importer.specs.Handed.{Handed}
 use Rattle.sweeping.specs.declared.Swept.{Swept}
 use Rattle.sweeping.specs.Promises.{Sweep}
 use Rattle.sweeping.specs.laws.Outcomes.{sweep-one}
-use Rattle.demands.specs.History.{Entry, apply, sweep, Answer, of-sweep, Event, sweeping, concerns, his, entries, answers, empty, Ours, start, accepted, refused, swept, idle, Replay, applied, swept}
+use Rattle.demands.specs.History.{Entry, apply, sweep, Answer, Event, sweeping, concerns, his, entries, answers, empty, Ours, start, accepted, refused, swept, idle, Replay, applied, swept}
 use Rattle.demands.specs.Weighed.{judgedUnder, AcceptedUnder, ownCounts, acceptanceBy, OursUnder, start, accepted, swept}
 use Rattle.demands.specs.laws.Imports.{refused-register}
 use Rattle.demands.specs.laws.Sound.{Sound}

@@ -9,7 +9,7 @@ use lib.ListN.{length, getD, length-append, length-map}
 use borrow.Author.Tests.{eqb-true, ltb-false}
 use Rattle.theory.specs.laws.Truth.{and-none}
 use Rattle.theory.specs.First.{Rule, None, first, choose}
-use Rattle.theory.specs.laws.First.{numbered, first-clear, first-none, first-append, first-most, numberedTo, numberedBy, first-passes, otherwise}
+use Rattle.theory.specs.laws.First.{first-none, numberedBy, first-passes}
 use Rattle.theory.specs.Same.{eqs}
 use Rattle.theory.specs.laws.Same.{eqs-true}
 use Rattle.theory.specs.Walk.{some}
@@ -31,7 +31,7 @@ use Rattle.holdings.specs.Holdings.{storedAll, others, replacedAll, holdings}
 use Rattle.holdings.specs.laws.Storing.{all-grows}
 use Rattle.thinness.specs.Thin.{thin}
 use Rattle.thinness.specs.laws.Thin.{thin-so, thin-only, thick-half}
-use Rattle.stops.specs.Stops.{callStops, fileStops, formStops, formStop}
+use Rattle.stops.specs.Stops.{formStops, formStop}
 use Rattle.stops.specs.laws.Clear.{clear}
 use Rattle.importer.specs.declared.Imported.{Imported}
 use Rattle.importer.specs.Handed.{Handed}
