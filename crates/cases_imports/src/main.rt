@@ -1,4 +1,4 @@
-// Runs the vectors on registers, lookups, imports and the provider's side, from the document and docs/DECISIONS.md. `stdin`
+// Runs the vectors on registers, lookups, sweeps, imports and the provider's side, from the document and docs/DECISIONS.md. `stdin`
 // has one a line: what is asked in eight characters, a blank, and what it is asked of; `stdout` has the same lines, each
 // with its answer. A line that begins with # is a note, and `text` gives the text that a letter names. ~ stands for LF and ^
 // for CR. `each` answers the vector behind it for each value of a run of wild characters in it: # a digit, @ a capital, ? any
@@ -13,7 +13,21 @@ mod found;
 mod imports;
 mod many;
 mod pairs;
+mod sweeps;
 mod tell;
+
+// The most bytes of `stdin` that are read.
+const INPUT: usize = 131072;
+
+fn of_swept(tag: &[u8], f: &[u8], samples: &[u8; SAMPLES], aloud: bool) -> u64 {
+    if texts::same(tag, b"sweep   ") {
+        return sweeps::of_sweep(f, samples, aloud);
+    }
+    if texts::same(tag, b"gone    ") {
+        return sweeps::of_gone(f, samples, aloud);
+    }
+    found::of_register(tag, f, samples, aloud)
+}
 
 fn of_pair(tag: &[u8], f: &[u8], samples: &[u8; SAMPLES], aloud: bool) -> u64 {
     if texts::same(tag, b"readback") {
@@ -22,7 +36,7 @@ fn of_pair(tag: &[u8], f: &[u8], samples: &[u8; SAMPLES], aloud: bool) -> u64 {
     if texts::same(tag, b"update  ") {
         return pairs::of_update(f, samples, aloud);
     }
-    found::of_register(tag, f, samples, aloud)
+    of_swept(tag, f, samples, aloud)
 }
 
 // The first number of a vector's answer; aloud, all of it is told.
@@ -79,7 +93,7 @@ fn each_case(text: &mut [u8]) {
 }
 
 fn main() {
-    let mut text = io::large_buffer();
+    let mut text = [0u8; INPUT];
     let n = io::read_full(STDIN_FILENO, &mut text);
     each_case(&mut text[..n]);
 }

@@ -17,6 +17,10 @@ use Rattle.updating.specs.Update.{copyStops, receiptStops}
 use Rattle.reading.specs.Promises.{ReadBack}
 use Rattle.updating.specs.Promises.{Update}
 use Rattle.importer.specs.Handed.{Handed}
+use Rattle.sweeping.specs.declared.Swept.{Swept}
+use Rattle.sweeping.specs.Sweep.{sweepStops}
+use Rattle.sweeping.specs.Promises.{Sweep}
+use Rattle.sweeping.specs.laws.Sweep as swept
 use Rattle.demands.specs.laws.Imports as imports
 use Rattle.demands.specs.laws.Answered as answered
 
@@ -40,7 +44,11 @@ pub update-ends : (s : Sent) (copy : List ℕ) → (r : Counted) × (c : List �
 unfolding Update
 update-ends s copy = (_, _, (refl, refl))
 
--- and only one: `import-one`, `by-pan-one`, `by-plate-one`, `read-back-one` and `update-one`, each about the name that the contract
+pub sweep-ends : (time register : List ℕ) → (r : Swept) × (b : List ℕ) × Sweep time register r b
+unfolding Sweep
+sweep-ends time register = (_, _, (refl, refl))
+
+-- and only one: `import-one`, `by-pan-one`, `by-plate-one`, `read-back-one`, `update-one` and `sweep-one`, each about the name that the contract
 -- cites, stand among the laws of the crates
 
 -- "What is bad is refused by its number in the definition, tested here and not by the caller."
@@ -62,6 +70,9 @@ read-back-decided hgv hgc block r v o = answered.read-decided hgv hgc block r v 
 pub update-decided : (s : Sent) (copy : List ℕ) (r : Counted) (c : List ℕ) → Update s copy r c → Decided (copyStops (s .mode) copy (s .hgv) ++ receiptStops s copy) (r .number)
 update-decided s copy r c o = answered.update-decided s copy r c o
 
+pub sweep-decided : (time register : List ℕ) (r : Swept) (b : List ℕ) → Sweep time register r b → Decided (sweepStops time register) (r .number)
+sweep-decided = swept.sweep-decided
+
 -- "A refusal returns zero counts, and every lent byte stays."
 pub import-refusal : (f : Handed) (register : List ℕ) (r : Imported) (b g : List ℕ) → Import f register r b g → (r .number ≡ 0 → ⊥)
     → (r ≡ record { number = r .number; taken = 0; rejected = 0; length = 0 }) × ((b ≡ register) × (g ≡ f .hgc))
@@ -74,6 +85,10 @@ read-back-refusal hgv hgc block r v o k = answered.read-refusal hgv hgc block r 
 pub update-refusal : (s : Sent) (copy : List ℕ) (r : Counted) (c : List ℕ) → Update s copy r c → (r .number ≡ 0 → ⊥)
     → (r ≡ record { number = r .number; taken = 0; rejected = 0 }) × (c ≡ copy)
 update-refusal s copy r c o k = answered.update-refusal s copy r c o k
+
+pub sweep-refusal : (time register : List ℕ) (r : Swept) (b : List ℕ) → Sweep time register r b → (r .number ≡ 0 → ⊥)
+    → (r ≡ record { number = r .number; removed = 0 }) × (b ≡ register)
+sweep-refusal = swept.sweep-refused
 
 -- a lookup is lent its register to read only; its refusal hands nothing back
 pub by-pan-refusal : (register key part : List ℕ) (number : ℕ) → ByPan register key part number → (number ≡ 0 → ⊥) → part ≡ []

@@ -8,11 +8,12 @@ use Rattle.theory.specs.Pad.{pad}
 use Rattle.sizes.specs.Sizes.{slotLength, slotsMost}
 use Rattle.slots.specs.Slots.{records}
 use Rattle.importer.specs.declared.Imported.{Imported}
-use Rattle.provider.specs.declared.Counted.{Counted}
 use Rattle.demands.specs.Own.{own}
 use Rattle.importer.specs.Handed.{Handed}
 use Rattle.importer.specs.Promises.{Import}
-use Rattle.demands.specs.History.{Entry, Event, his, entries, answers, empty, Ours, start, Replay, start}
+use Rattle.sweeping.specs.declared.Swept.{Swept}
+use Rattle.sweeping.specs.Promises.{Sweep}
+use Rattle.demands.specs.History.{Entry, Answer, Event, sweeping, his, entries, answers, empty, _▸_, Ours, start, swept, idle, Replay, start}
 use Rattle.demands.specs.laws.Replays as laws
 
 -- "Both sides start empty with as many slots;"
@@ -25,15 +26,27 @@ pub any-import : {n : ℕ} {register : List ℕ} {es : List Event} → Ours n re
     → (vs : List Event) × Ours n b vs
 any-import = laws.goes-on
 
--- "If he applies each accepted import of his (HGV, HGC, mode) once and in our order,"
--- Whatever was sent can be applied, at any time: a replay knows nothing of our side but what was sent
-pub any-replay : (n : ℕ) (es : List Entry) → (copy : List ℕ) × (us : List Counted) × Replay n es copy us
+-- Sweeps stand among them (request 8), at any times, refused ones included. Whatever comes of one, the next step of our side is that everyone
+-- is told its time;
+pub any-sweep : {n : ℕ} {register : List ℕ} {es : List Event} → Ours n register es → (t : List ℕ) (r : Swept) (b : List ℕ) → Sweep t register r b
+    → Ours n b (es ▸ sweeping t register r b)
+any-sweep = Ours.swept
+
+-- where it removed none, as where it was refused, nobody has to be
+pub any-idle-sweep : {n : ℕ} {register : List ℕ} {es : List Event} → Ours n register es → (t : List ℕ) (r : Swept) (b : List ℕ) → Sweep t register r b
+    → r .removed ≡ 0 → Ours n b es
+any-idle-sweep = Ours.idle
+
+-- "If he applies each accepted import of his (HGV, HGC, mode) once and in our order," and "sweeps his copy at the same T and the same place in
+-- the sequence": whatever was sent can be applied, and every time swept at, whenever he does it. A replay knows nothing of our side but what
+-- he was told
+pub any-replay : (n : ℕ) (es : List Entry) → (copy : List ℕ) × (us : List Answer) × Replay n es copy us
 any-replay = laws.can-replay
 
 -- For every sequence on our side, every provider, and every replay of what is his
-module _ {n : ℕ} {register : List ℕ} {es : List Event} (ours : Ours n register es) (who : List ℕ) {copy : List ℕ} {us : List Counted} (replay : Replay n (entries (his who es)) copy us) where
-  -- each of his updates answered 0, with that import's own taken and rejected;
-  pub each-answered : us ≡ answers (his who es)
+module _ {n : ℕ} {register : List ℕ} {es : List Event} (ours : Ours n register es) (who : List ℕ) {copy : List ℕ} {us : List Answer} (replay : Replay n (entries (his who es)) copy us) where
+  -- each of his updates answered 0, with that import's own taken and rejected, and each of his sweeps our number, with his part of what went;
+  pub each-answered : us ≡ answers who (his who es)
   each-answered = laws.stands ours who .replayed copy us replay .1
 
   -- "his copy holds, byte for byte and in order, the records we hold for him."
@@ -44,6 +57,6 @@ module _ {n : ℕ} {register : List ℕ} {es : List Event} (ours : Ours n regist
   same-records = laws.stands ours who .replayed copy us replay .0 .held
 
 -- "He needs neither our tables nor anyone else's records."
--- Two replays of the same HGVs, HGCs and modes end in the same bytes and answers, whatever else differs
-pub he-needs-nothing-else : {n : ℕ} {es : List Entry} {c c′ : List ℕ} {us us′ : List Counted} → Replay n es c us → Replay n es c′ us′ → (c ≡ c′) × (us ≡ us′)
+-- Two replays of the same HGVs, HGCs, modes and times end in the same bytes and answers, whatever else differs
+pub he-needs-nothing-else : {n : ℕ} {es : List Entry} {c c′ : List ℕ} {us us′ : List Answer} → Replay n es c us → Replay n es c′ us′ → (c ≡ c′) × (us ≡ us′)
 he-needs-nothing-else = laws.replay-one

@@ -8,4 +8,5 @@ pub mod Demand3
 pub mod Weights
 pub mod Thin
 pub mod Stamps
+pub mod Sweeps
 pub mod laws

@@ -35,7 +35,9 @@ use Rattle.receipts.specs.Receipt.{takenBy, receiptHolds}
 use Rattle.importer.specs.Handed.{Handed}
 use Rattle.provider.specs.declared.Counted.{Counted}
 use Rattle.updating.specs.Sent.{sent}
-use Rattle.demands.specs.History.{apply, Event, empty, _▸_}
+use Rattle.sweeping.specs.declared.Swept.{Swept}
+use Rattle.sweeping.specs.Promises.{Sweep}
+use Rattle.demands.specs.History.{apply, of-update, Event, sweeping, empty, _▸_}
 
 -- ---- before request 3
 
@@ -91,12 +93,15 @@ ownCounts vs = record { number = 0; taken = tally good vs; rejected = tally bad 
 
 -- he has to apply what was sent, and his update is to answer these
 unfoldable pub acceptanceBy : List ℕ → Handed → List ℕ → Event
-acceptanceBy vs f g = record { entry = apply (sent (f .mode) (f .hgv) g); counted = ownCounts vs }
+acceptanceBy vs f g = record { entry = apply (sent (f .mode) (f .hgv) g); answer = λ _. of-update (ownCounts vs) }
 
--- our side: a refused import leaves all as it was, so the accepted ones are enough
+-- our side: a refused import leaves all as it was, and so does a sweep of which nobody is told, so the others are enough
 pub data OursUnder (n : ℕ) : List ℕ → List Event → Type 0 where
   -- it starts with n free slots
   start : n ≤ slotsMost → OursUnder n (empty n) []
   -- a file was accepted, under the limits of its day
   accepted : {register : List ℕ} {es : List Event} → OursUnder n register es → (limit : List ℕ → Bool) (f : Handed) (b g : List ℕ)
       → AcceptedUnder limit f register b g → OursUnder n b (es ▸ acceptanceBy (judgedUnder limit f register) f g)
+  -- it was swept
+  swept : {register : List ℕ} {es : List Event} → OursUnder n register es → (t : List ℕ) (r : Swept) (b : List ℕ)
+      → Sweep t register r b → OursUnder n b (es ▸ sweeping t register r b)

@@ -28,7 +28,7 @@ use Rattle.importer.specs.Promises.{Import}
 use Rattle.provider.specs.declared.Counted.{Counted}
 use Rattle.reading.specs.Promises.{ReadBack}
 use Rattle.demands.specs.Own.{own}
-use Rattle.demands.specs.History.{Event, his, entries, answers, Replay}
+use Rattle.demands.specs.History.{Answer, Event, his, entries, answers, Replay}
 use Rattle.demands.specs.Verdicts.{Verdicts}
 use Rattle.demands.specs.Weighed.{inOrderBefore, receiptHoldsBefore, judgedUnder, AcceptedUnder, ownCounts, OursUnder}
 use Rattle.demands.specs.Demand2.{taken-exactly}
@@ -76,10 +76,10 @@ pub reads-back : (limit : List ℕ → Bool) (f : Handed) (register b g : List �
     → (u ≡ ownCounts (judgedUnder limit f register)) × (w ≡ judgedUnder limit f register ++ drop (linesIn (f .hgv)) block)
 reads-back = laws.read-under
 
--- And for every sequence of imports, each under the limits of its day, every provider, and every replay today of what is his
-module _ {n : ℕ} {register : List ℕ} {es : List Event} (ours : OursUnder n register es) (who : List ℕ) {copy : List ℕ} {us : List Counted} (replay : Replay n (entries (his who es)) copy us) where
-  -- each of his updates answered 0, with that import's own taken and rejected,
-  pub each-answered : us ≡ answers (his who es)
+-- And for every sequence of imports, each under the limits of its day, and of sweeps, every provider, and every replay today of what is his
+module _ {n : ℕ} {register : List ℕ} {es : List Event} (ours : OursUnder n register es) (who : List ℕ) {copy : List ℕ} {us : List Answer} (replay : Replay n (entries (his who es)) copy us) where
+  -- each of his updates answered 0, with that import's own taken and rejected, each of his sweeps with our number and his part of what went,
+  pub each-answered : us ≡ answers who (his who es)
   each-answered = stands-under ours who .replayed copy us replay .1
 
   -- and his copy holds, byte for byte and in order, the records we hold for him

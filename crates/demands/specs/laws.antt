@@ -12,3 +12,4 @@ pub mod Judging
 pub mod Exact
 pub mod Thin
 pub mod Stamps
+pub mod Sweeps

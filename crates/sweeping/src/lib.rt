@@ -30,11 +30,8 @@ fn sweep_stop(register: &[u8], time: &[u8]) -> u64
 fn mark_of(slot: &[u8], time: &[u8]) -> u8
     ensures { λ r. ⌜ r ≡ markBy (ended (now (time .entry))) (now (slot .entry)) ⌝ }
 {
-    if activity::is_active(slot, time) {
-        0
-    } else {
-        1
-    }
+    let active = activity::is_active(slot, time);
+    if active { 0 } else { 1 }
 }
 
 // A mark for each of the slots, as many as `marks` has room for.

@@ -1,5 +1,5 @@
--- What the definitions say of small files, computed: single files, two in a row, and seven of two providers with the copy of one,
--- updated late. Assumes nothing.
+-- What the definitions say of small files, computed: single files, two in a row, seven of two providers with the copy of one, updated
+-- late, and a full register that is swept, with the copies of both. Assumes nothing.
 use mathlib.Core.Path.{_≡_, refl}
 use mathlib.Core.Bool.{false}
 use mathlib.Core.List.{List, [], _∷_, _++_}
@@ -57,11 +57,12 @@ use Rattle.importer.specs.Import.{judged, following, confirmed, judgedStops, st
 use Rattle.importer.specs.declared.Imported.{Imported}
 use Rattle.pairing.specs.Pairing.{isTaken, marksFrom, marks, left}
 use Rattle.receipts.specs.Receipt.{answersIn, behindHead, answersOf, lengthForm, headForm, answerForm, formHolds, namesHold, outcomeHolds, reasonHolds, textsOf, copiesOf, marksOf, takenBy, sameTexts, copiesHold, countsHold, lineHolds, takenHold, saysHold, linesHold, receiptHolds}
-use Rattle.provider.specs.declared.Counted.{Counted}
 use Rattle.provider.specs.Answer.{stopCounts, successCounts}
 use Rattle.updating.specs.Sent.{Sent, sent}
 use Rattle.updating.specs.Update.{ownHolds, copyStops, copyFollowing, receiptStops, updateNumber, updateAnswer, copyWritten, copyAfter}
-use Rattle.demands.specs.History.{empty}
+use Rattle.sweeping.specs.declared.Swept.{Swept}
+use Rattle.sweeping.specs.Sweep.{ended, going, staying, sweepStops, sweepNumber, sweepAnswer, sweptBytes, registerSwept}
+use Rattle.demands.specs.History.{Entry, apply, sweep, Answer, of-update, of-sweep, empty}
 use Rattle.witnesses.specs.Files as files
 
 -- what is handed over with a file
@@ -193,25 +194,27 @@ pub record Seven : Type 0 where
 abbrev pub sentWith : Handed → List ℕ → Sent
 sentWith f hgc = sent (f .mode) (f .hgv) hgc
 
--- the copy after these were applied, one after the other
-unfoldable pub copyBy : List ℕ → List Sent → List ℕ
+-- the copy after these were done, one after the other
+unfoldable pub copyBy : List ℕ → List Entry → List ℕ
 copyBy copy [] = copy
-copyBy copy (s ∷ ss) = copyBy (copyAfter s copy) ss
+copyBy copy (apply s ∷ es) = copyBy (copyAfter s copy) es
+copyBy copy (sweep t ∷ es) = copyBy (registerSwept t copy) es
 
--- and what the updates answered, the last in front
-unfoldable pub answersBy : List ℕ → List Counted → List Sent → List Counted
+-- and what they answered, the last in front
+unfoldable pub answersBy : List ℕ → List Answer → List Entry → List Answer
 answersBy copy us [] = us
-answersBy copy us (s ∷ ss) = answersBy (copyAfter s copy) (updateAnswer s copy ∷ us) ss
+answersBy copy us (apply s ∷ es) = answersBy (copyAfter s copy) (of-update (updateAnswer s copy) ∷ us) es
+answersBy copy us (sweep t ∷ es) = answersBy (registerSwept t copy) (of-sweep (sweepAnswer t copy) ∷ us) es
 
-abbrev pub counts3 : ℕ → ℕ → ℕ → Counted
-counts3 number taken rejected = record { number = number; taken = taken; rejected = rejected }
+abbrev pub counts3 : ℕ → ℕ → ℕ → Answer
+counts3 number taken rejected = of-update (record { number = number; taken = taken; rejected = rejected })
 
 -- where a provider starts, and what the first of them applies
 abbrev pub started : List ℕ
 started = empty 3
 
-abbrev pub late : List Sent
-late = sentWith file₁ hgc₁ ∷ sentWith file₄ hgc₄ ∷ sentWith file₆ hgc₆ ∷ []
+abbrev pub late : List Entry
+late = apply (sentWith file₁ hgc₁) ∷ apply (sentWith file₄ hgc₄) ∷ apply (sentWith file₆ hgc₆) ∷ []
 
 -- what he holds then: an account that the full list touched last, and one that the last list replaced
 abbrev pub his₆ : List ℕ
@@ -221,11 +224,82 @@ pub record Late : Type 0 where
   pub copy-is : copyBy started late ≡ his₆
   pub answers-are : answersBy started [] late ≡ counts3 0 1 0 ∷ counts3 0 2 0 ∷ counts3 0 1 1 ∷ []
   -- and the other's
-  pub their-copy : copyBy started (sentWith file₂ hgc₂ ∷ []) ≡ theirs ++ files.free ++ files.free
-  pub their-answers : answersBy started [] (sentWith file₂ hgc₂ ∷ []) ≡ counts3 0 1 0 ∷ []
+  pub their-copy : copyBy started (apply (sentWith file₂ hgc₂) ∷ []) ≡ theirs ++ files.free ++ files.free
+  pub their-answers : answersBy started [] (apply (sentWith file₂ hgc₂) ∷ []) ≡ counts3 0 1 0 ∷ []
+
+-- ---- a register of two slots that is full and swept
+
+-- an account that has ended; another one, for which there is no slot; and the ended one again
+abbrev pub file₈ : Handed
+file₈ = with 1 (files.file files.one (bytes "08") files.single files.ended)
+
+abbrev pub file₉ : Handed
+file₉ = with 1 (files.file files.one (bytes "09") files.single files.other)
+
+abbrev pub file₁₀ : Handed
+file₁₀ = with 1 (files.file files.one (bytes "10") files.single files.ended)
+
+-- a list's record of the ended account: its end is the reception
+abbrev pub endedBy : List ℕ → List ℕ
+endedBy number = files.slot files.one number files.stored
+
+-- after his list, after the other provider's, after the sweep and after his next list
+abbrev pub begun : List ℕ
+begun = endedBy (bytes "08") ++ files.free
+
+abbrev pub packed : List ℕ
+packed = endedBy (bytes "08") ++ theirs
+
+abbrev pub emptied : List ℕ
+emptied = theirs ++ files.free
+
+abbrev pub refilled : List ℕ
+refilled = theirs ++ endedBy (bytes "10")
+
+abbrev pub hgc₈ : List ℕ
+hgc₈ = files.confirmed files.one (bytes "08") files.single files.none (bytes "00") []
+
+abbrev pub hgc₁₀ : List ℕ
+hgc₁₀ = files.confirmed files.one (bytes "10") files.single files.none (bytes "00") []
+
+abbrev pub went : ℕ → ℕ → Swept
+went number removed = record { number = number; removed = removed }
+
+-- what he does, and the other: both sweep, at the time at which the account ended and at one that is none
+abbrev pub sweeps : List Entry
+sweeps = sweep files.reception ∷ sweep files.unreal ∷ []
+
+abbrev pub swept : List Entry
+swept = apply (sentWith file₈ hgc₈) ∷ sweep files.reception ∷ sweep files.unreal ∷ apply (sentWith file₁₀ hgc₁₀) ∷ []
+
+pub record Emptied : Type 0 where
+  pub answer₈ : answerTo (empty 2) file₈ ≡ counts4 0 1 0 174
+  pub after₈ : after (empty 2) file₈ ≡ begun
+  pub hgc-is₈ : take 174 (bufferAfter (empty 2) file₈) ≡ hgc₈
+  pub answer₂ : answerTo begun file₂ ≡ counts4 0 1 0 174
+  pub after₂ : after begun file₂ ≡ packed
+  pub hgc-is₂ : take 174 (bufferAfter begun file₂) ≡ hgc₂
+  -- 33
+  pub answer₉ : answerTo packed file₉ ≡ counts4 33 0 0 0
+  pub after₉ : after packed file₉ ≡ packed
+  -- the end is not later than the time: the record goes, the other closes up
+  pub swept-answer : sweepAnswer files.reception packed ≡ went 0 1
+  pub swept-register : registerSwept files.reception packed ≡ emptied
+  -- 22
+  pub unreal-answer : sweepAnswer files.unreal emptied ≡ went 22 0
+  pub unreal-register : registerSwept files.unreal emptied ≡ emptied
+  -- its slot is used by the next import
+  pub answer₁₀ : answerTo emptied file₁₀ ≡ counts4 0 1 0 174
+  pub after₁₀ : after emptied file₁₀ ≡ refilled
+  pub hgc-is₁₀ : take 174 (bufferAfter emptied file₁₀) ≡ hgc₁₀
+  -- the copies of both
+  pub his-copy : copyBy (empty 2) swept ≡ endedBy (bytes "10") ++ files.free
+  pub his-answers : answersBy (empty 2) [] swept ≡ counts3 0 1 0 ∷ of-sweep (went 22 0) ∷ of-sweep (went 0 1) ∷ counts3 0 1 0 ∷ []
+  pub their-copy : copyBy (empty 2) (apply (sentWith file₂ hgc₂) ∷ sweeps) ≡ emptied
+  pub their-answers : answersBy (empty 2) [] (apply (sentWith file₂ hgc₂) ∷ sweeps) ≡ of-sweep (went 22 0) ∷ of-sweep (went 0 0) ∷ counts3 0 1 0 ∷ []
 
 -- ---- computed, by every definition that the contracts reach
 
-pub computed : Single × (Seven × Late)
-unfolding takenNext earlier bump distinct all run leading choose first flat onto free pad frontOn front chop good bad pick eqs mem scan tally each some field listed filledTo filled numberAfter number decimal pan doubled addend luhnSum luhn allowed plate nationality separated separator rowHolds rowsHold sentBy rowBegins rowFits known someRowBegins someRowFits daysIn realTime realDate tariffHolds classHolds emissionHolds productHolds engineHolds validToHolds separatorHolds fieldsHold vehicleHolds limits meets meetsEach missing allows weightHolds L10 endOf recordOf slotOf stamp stampHolds L1 L2 L3 L4 L5 L6 L7 nationalityBlank L8 L9 rulesBy lineRules recordHolds starred slotsOf marked usedForm freeForm records usedPart inOrder holdsPan placeOf ofActor holdsForeign heldByAnother countOf widthOf linesIn lengthHolds body linesOf footer footerForm footerHolds framed framesHold sequence previousHolds headerHolds versionHolds incrementalOnly receiverHolds countHolds zeros outcome head answer said answers foot confirmation ownRules verdictRules verdict verdictsOf fileVerdicts taken rejected storedOn stored storedAll others replacedAll isFull holdings usedAfter modeHolds fullWith220001 addressed callStops fileStops formStops formStop judged following confirmed thin judgedStops stops importNumber unlessStopped refusal success registerAfter hgcAfter registerWritten hgcWritten importAnswer empty sift isTaken marksFrom marks left answersIn behindHead answersOf lengthForm headForm answerForm formHolds namesHold outcomeHolds reasonHolds textsOf copiesOf marksOf takenBy sameTexts copiesHold countsHold lineHolds takenHold saysHold linesHold receiptHolds stopCounts successCounts ownHolds copyStops copyFollowing receiptStops updateNumber updateAnswer copyWritten copyAfter count copyBy answersBy
-computed = (record { good-answer = refl; good-register = refl; empty-answer = refl; empty-hgc = refl; bad-answer = refl; bad-hgc = refl; different = refl; first-register = refl; both-register = refl; both-different = refl; ended-register = refl; ended-hgc = refl }, (record { answer₁ = refl; after₁ = refl; hgc-is₁ = refl; answer₂ = refl; after₂ = refl; hgc-is₂ = refl; answer₃ = refl; after₃ = refl; answer₄ = refl; after₄ = refl; hgc-is₄ = refl; answer₅ = refl; after₅ = refl; answer₆ = refl; after₆ = refl; hgc-is₆ = refl; answer₇ = refl; after₇ = refl }, record { copy-is = refl; answers-are = refl; their-copy = refl; their-answers = refl }))
+pub computed : Single × (Seven × (Late × Emptied))
+unfolding takenNext earlier bump distinct all run leading choose first flat onto free pad frontOn front chop good bad pick eqs mem scan tally each some field listed filledTo filled numberAfter number decimal pan doubled addend luhnSum luhn allowed plate nationality separated separator rowHolds rowsHold sentBy rowBegins rowFits known someRowBegins someRowFits daysIn realTime realDate tariffHolds classHolds emissionHolds productHolds engineHolds validToHolds separatorHolds fieldsHold vehicleHolds limits meets meetsEach missing allows weightHolds L10 endOf recordOf slotOf stamp stampHolds L1 L2 L3 L4 L5 L6 L7 nationalityBlank L8 L9 rulesBy lineRules recordHolds starred slotsOf marked usedForm freeForm records usedPart inOrder holdsPan placeOf ofActor holdsForeign heldByAnother countOf widthOf linesIn lengthHolds body linesOf footer footerForm footerHolds framed framesHold sequence previousHolds headerHolds versionHolds incrementalOnly receiverHolds countHolds zeros outcome head answer said answers foot confirmation ownRules verdictRules verdict verdictsOf fileVerdicts taken rejected storedOn stored storedAll others replacedAll isFull holdings usedAfter modeHolds fullWith220001 addressed callStops fileStops formStops formStop judged following confirmed thin judgedStops stops importNumber unlessStopped refusal success registerAfter hgcAfter registerWritten hgcWritten importAnswer empty sift isTaken marksFrom marks left answersIn behindHead answersOf lengthForm headForm answerForm formHolds namesHold outcomeHolds reasonHolds textsOf copiesOf marksOf takenBy sameTexts copiesHold countsHold lineHolds takenHold saysHold linesHold receiptHolds stopCounts successCounts ownHolds copyStops copyFollowing receiptStops updateNumber updateAnswer copyWritten copyAfter count ended going staying sweepStops sweepNumber sweepAnswer sweptBytes registerSwept copyBy answersBy
+computed = (record { good-answer = refl; good-register = refl; empty-answer = refl; empty-hgc = refl; bad-answer = refl; bad-hgc = refl; different = refl; first-register = refl; both-register = refl; both-different = refl; ended-register = refl; ended-hgc = refl }, (record { answer₁ = refl; after₁ = refl; hgc-is₁ = refl; answer₂ = refl; after₂ = refl; hgc-is₂ = refl; answer₃ = refl; after₃ = refl; answer₄ = refl; after₄ = refl; hgc-is₄ = refl; answer₅ = refl; after₅ = refl; answer₆ = refl; after₆ = refl; hgc-is₆ = refl; answer₇ = refl; after₇ = refl }, (record { copy-is = refl; answers-are = refl; their-copy = refl; their-answers = refl }, record { answer₈ = refl; after₈ = refl; hgc-is₈ = refl; answer₂ = refl; after₂ = refl; hgc-is₂ = refl; answer₉ = refl; after₉ = refl; swept-answer = refl; swept-register = refl; unreal-answer = refl; unreal-register = refl; answer₁₀ = refl; after₁₀ = refl; hgc-is₁₀ = refl; his-copy = refl; his-answers = refl; their-copy = refl; their-answers = refl })))

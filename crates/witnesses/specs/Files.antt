@@ -19,6 +19,10 @@ rows = bytes "97990012      081690012397990012      0816900124"
 abbrev pub reception : List ℕ
 reception = bytes "20250310050000"
 
+-- a time that is none: 30 February
+abbrev pub unreal : List ℕ
+unreal = bytes "20250230050000"
+
 -- a buffer whose bytes are none of an HGC's
 abbrev pub buffer : List ℕ
 buffer = replicate 304 238

@@ -1,10 +1,11 @@
 -- Seven files of two providers: a rejected line, another provider, a refused file, the full list, a full list that is too thin, an
--- account replaced, and a refused file again. The copies are updated afterwards, and hold what we hold for each: so demand 3 speaks
--- of sequences that there are. Assumes nothing.
+-- account replaced, and a refused file again. Then a register that is full of what has ended, which a sweep empties for the next file. The
+-- copies are updated afterwards, and hold what we hold for each: so demand 3 speaks of sequences that there are. Assumes nothing.
 use mathlib.Core.Path.{_≡_, refl, sym}
 use mathlib.Core.List.{List, [], _∷_, _++_}
 use Prim.Native.Nat.{ℕ}
 use native.Mathlib.Omega.{arith}
+use Rattle.theory.specs.Text.{bytes}
 use Rattle.theory.specs.Same.{eqs}
 use Rattle.theory.specs.Keep.{onto, sift}
 use Rattle.theory.specs.Join.{flat}
@@ -17,10 +18,13 @@ use Rattle.importer.specs.Promises.{Import}
 use Rattle.updating.specs.Promises.{Update}
 use Rattle.demands.specs.Own.{own}
 use Rattle.importer.specs.Handed.{Handed}
-use Rattle.demands.specs.History.{apply, Event, acceptance, concerns, his, entries, empty, _▸_, Ours, start, accepted, refused, Replay, applied}
+use Rattle.sweeping.specs.declared.Swept.{Swept}
+use Rattle.sweeping.specs.Sweep.{sweepAnswer, registerSwept}
+use Rattle.sweeping.specs.Promises.{Sweep}
+use Rattle.demands.specs.History.{apply, sweep, of-sweep, Event, acceptance, sweeping, concerns, his, entries, empty, _▸_, Ours, start, accepted, refused, swept, Replay, applied, swept}
 use Rattle.demands.specs.Demand3.{copy-is}
 use Rattle.witnesses.specs.Files as files
-use Rattle.witnesses.specs.Computed.{answerTo, after, bufferAfter, counts4, file₁, file₂, file₃, file₄, file₅, file₆, file₇, theirs, register₁, register₂, register₄, register₆, hgc₁, hgc₂, hgc₄, hgc₆, Seven, Late, sentWith, his₆, copyBy, answersBy, counts3, computed}
+use Rattle.witnesses.specs.Computed.{answerTo, after, bufferAfter, counts4, file₁, file₂, file₃, file₄, file₅, file₆, file₇, theirs, register₁, register₂, register₄, register₆, hgc₁, hgc₂, hgc₄, hgc₆, Seven, Late, sentWith, his₆, copyBy, answersBy, counts3, file₈, file₉, file₁₀, endedBy, begun, packed, emptied, refilled, hgc₈, hgc₁₀, went, Emptied, computed}
 
 seven : Seven
 seven = computed .1 .0
@@ -69,7 +73,7 @@ theirs-are = rw (seven .hgc-is₂)
 pub his-copy : Replay 3 (entries (his files.one events)) his₆ (counts3 0 1 0 ∷ counts3 0 2 0 ∷ counts3 0 1 1 ∷ [])
 unfolding Update copyBy answersBy
 his-copy =
-    let l : Late = computed .1 .1 in
+    let l : Late = computed .1 .1 .0 in
     rw (his-are, ← l .copy-is, ← l .answers-are)
     (applied (applied (applied start (sentWith file₁ hgc₁) _ _ (refl, refl)) (sentWith file₄ hgc₄) _ _ (refl, refl)) (sentWith file₆ hgc₆) _ _ (refl, refl))
 
@@ -77,9 +81,72 @@ his-copy =
 pub their-copy : Replay 3 (entries (his files.another events)) (theirs ++ files.free ++ files.free) (counts3 0 1 0 ∷ [])
 unfolding Update copyBy answersBy
 their-copy =
-    let l : Late = computed .1 .1 in
+    let l : Late = computed .1 .1 .0 in
     rw (theirs-are, ← l .their-copy, ← l .their-answers) (applied start (sentWith file₂ hgc₂) _ _ (refl, refl))
 
 -- it is what demand 3 says
 pub both-sides : his₆ ≡ flat (pad slotLength 3 (own files.one (records register₆)))
 both-sides = copy-is seven-files files.one his-copy
+
+-- ---- a full register, and a sweep
+
+facts : Emptied
+facts = computed .1 .1 .1
+
+-- an outcome of a sweep, told by what was computed
+swept-outcome : (t register : List ℕ) (r : Swept) (b : List ℕ) → sweepAnswer t register ≡ r → registerSwept t register ≡ b → Sweep t register r b
+unfolding Sweep
+swept-outcome t register r b e d = (sym e, sym d)
+
+-- what was told
+abbrev told₈ : List Event
+told₈ = [] ▸ acceptance file₈ (counts4 0 1 0 174) (bufferAfter (empty 2) file₈)
+
+abbrev told₂ : List Event
+told₂ = told₈ ▸ acceptance file₂ (counts4 0 1 0 174) (bufferAfter begun file₂)
+
+abbrev toldSwept : List Event
+toldSwept = told₂ ▸ sweeping files.reception packed (went 0 1) emptied ▸ sweeping files.unreal emptied (went 22 0) emptied
+
+abbrev pub told : List Event
+told = toldSwept ▸ acceptance file₁₀ (counts4 0 1 0 174) (bufferAfter emptied file₁₀)
+
+-- our side: his list and the other's, a list that finds no slot, the sweep, one that is refused, and a list that finds the slot
+pub full-and-swept : Ours 2 refilled told
+full-and-swept =
+    let s₀ : Ours 2 (empty 2) [] = start (omega arith) in
+    let s₁ : Ours 2 begun told₈ = accepted s₀ file₈ _ _ _ (outcome file₈ (empty 2) (counts4 0 1 0 174) begun (facts .answer₈) (facts .after₈)) refl in
+    let s₂ : Ours 2 packed told₂ = accepted s₁ file₂ _ _ _ (outcome file₂ begun (counts4 0 1 0 174) packed (facts .answer₂) (facts .after₂)) refl in
+    let s₃ : Ours 2 packed told₂ = refused s₂ file₉ _ _ _ (outcome file₉ packed (counts4 33 0 0 0) packed (facts .answer₉) (facts .after₉)) (λ z. omega arith) in
+    let s₄ : Ours 2 emptied (told₂ ▸ sweeping files.reception packed (went 0 1) emptied) = swept s₃ files.reception _ _ (swept-outcome files.reception packed (went 0 1) emptied (facts .swept-answer) (facts .swept-register)) in
+    let s₅ : Ours 2 emptied toldSwept = swept s₄ files.unreal _ _ (swept-outcome files.unreal emptied (went 22 0) emptied (facts .unreal-answer) (facts .unreal-register)) in
+    accepted s₅ file₁₀ _ _ _ (outcome file₁₀ emptied (counts4 0 1 0 174) refilled (facts .answer₁₀) (facts .after₁₀)) refl
+
+-- of it what is his, and what is the other's, who sent nothing after the sweep
+his-told : entries (his files.one told) ≡ [] ▸ apply (sentWith file₈ hgc₈) ▸ sweep files.reception ▸ sweep files.unreal ▸ apply (sentWith file₁₀ hgc₁₀)
+unfolding his sift onto concerns acceptance sweeping eqs field
+his-told = rw (facts .hgc-is₈, facts .hgc-is₁₀)
+
+their-told : entries (his files.another told) ≡ [] ▸ apply (sentWith file₂ hgc₂) ▸ sweep files.reception ▸ sweep files.unreal
+unfolding his sift onto concerns acceptance sweeping eqs field
+their-told = rw (facts .hgc-is₂)
+
+-- his side and the other's, as they were computed
+pub his-swept : Replay 2 (entries (his files.one told)) (endedBy (bytes "10") ++ files.free) (counts3 0 1 0 ∷ of-sweep (went 22 0) ∷ of-sweep (went 0 1) ∷ counts3 0 1 0 ∷ [])
+unfolding Update Sweep copyBy answersBy
+his-swept =
+    rw (his-told, ← facts .his-copy, ← facts .his-answers)
+    (applied (swept (swept (applied start (sentWith file₈ hgc₈) _ _ (refl, refl)) files.reception _ _ (refl, refl)) files.unreal _ _ (refl, refl)) (sentWith file₁₀ hgc₁₀) _ _ (refl, refl))
+
+pub their-swept : Replay 2 (entries (his files.another told)) emptied (of-sweep (went 22 0) ∷ of-sweep (went 0 0) ∷ counts3 0 1 0 ∷ [])
+unfolding Update Sweep copyBy answersBy
+their-swept =
+    rw (their-told, ← facts .their-copy, ← facts .their-answers)
+    (swept (swept (applied start (sentWith file₂ hgc₂) _ _ (refl, refl)) files.reception _ _ (refl, refl)) files.unreal _ _ (refl, refl))
+
+-- they are what demand 3 says
+pub his-part : endedBy (bytes "10") ++ files.free ≡ flat (pad slotLength 2 (own files.one (records refilled)))
+his-part = copy-is full-and-swept files.one his-swept
+
+pub their-part : emptied ≡ flat (pad slotLength 2 (own files.another (records refilled)))
+their-part = copy-is full-and-swept files.another their-swept

@@ -11,6 +11,7 @@ pub mod given;
 pub mod imports;
 pub mod many;
 pub mod pairs;
+pub mod sweeps;
 
 pub use answer::Answer;
 pub use blocks::Samples;

@@ -1,6 +1,6 @@
 -- The records that follow make a register in order again, of as many slots (T9). Assumes nothing.
 use mathlib.Core.Path.{_≡_, refl, sym, ap, _∙_}
-use mathlib.Core.Bool.{Bool, true, false, not, cond}
+use mathlib.Core.Bool.{Bool, true, false, cond}
 use mathlib.Core.List.{List, [], _∷_, _++_, map}
 use Prim.Native.Nat.{ℕ, _≤_, _<_}
 use native.Mathlib.Omega.{arith}
@@ -9,7 +9,6 @@ use borrow.Author.Tests.{ltb-true}
 use Rattle.theory.specs.laws.Same.{eqs-true}
 use Rattle.theory.specs.Each.{Each, none, more}
 use Rattle.theory.specs.Walk.{some}
-use Rattle.theory.specs.Keep.{sift}
 use Rattle.theory.specs.Place.{place}
 use Rattle.theory.specs.laws.Place.{place-hit, place-some}
 use Rattle.theory.specs.laws.Scan.{some-key}

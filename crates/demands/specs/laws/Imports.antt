@@ -1,15 +1,17 @@
 -- What any outcome of an import has: at a stop zero counts, and every lent byte as it was; at 0 what the definitions say. Assumes nothing.
 use mathlib.Core.Path.{_≡_, refl, sym, ap, _∙_}
 use mathlib.Core.List.{List}
-use Prim.Native.Nat.{ℕ}
-use Rattle.theory.specs.First.{Decided}
-use Rattle.theory.specs.laws.First.{decided, numbered}
+use Prim.Native.Nat.{ℕ, zero, suc, _≤_, _<_}
+use native.Mathlib.Omega.{arith}
+use Rattle.theory.specs.First.{Rule, Decided, None, first}
+use Rattle.theory.specs.laws.First.{decided, numbered, numberedTo, otherwise, first-append, first-clear, first-most}
 use Rattle.theory.specs.laws.Stopped.{number-kept}
-use Rattle.stops.specs.Stops.{callStops, fileStops, formStops}
+use Rattle.stops.specs.Stops.{callStops, fileStops, formStops, formStop}
+use Rattle.stops.specs.laws.Clear.{clear}
 use Rattle.importer.specs.declared.Imported.{Imported}
 use Rattle.importer.specs.Import.{judgedStops, stops, importNumber, refusal, success, registerWritten, hgcWritten, importAnswer}
 use Rattle.importer.specs.Promises.{Import}
-use Rattle.importer.specs.laws.Numbers.{stop-answer, stop-register, stop-hgc, done-answer, done-register, done-hgc}
+use Rattle.importer.specs.laws.Numbers.{Formed, stop-answer, stop-register, stop-hgc, done-answer, done-register, done-hgc}
 use Rattle.importer.specs.Handed.{Handed}
 
 module _ (f : Handed) (register : List ℕ) (r : Imported) (b g : List ℕ) (o : Import f register r b g) where
@@ -24,6 +26,32 @@ module _ (f : Handed) (register : List ℕ) (r : Imported) (b g : List ℕ) (o :
   pub number-decided : Decided (stops f register) (r .number)
   unfolding importNumber stops formStops callStops fileStops judgedStops numbered
   number-decided = decided (stops f register) refl (r .number) number-is
+
+  -- ---- a number behind the stops of form
+
+  abbrev fs : List Rule
+  fs = formStops (f .mode) (f .reception) register (f .rows) (f .hgv)
+
+  module _ (k : ℕ) (l : 32 < k) (e : r .number ≡ k) where
+    -- none of them has it
+    form-passed : (first fs ≡ 0) × (first (judgedStops f register) ≡ k)
+    unfolding importNumber stops formStops callStops fileStops numbered numberedTo otherwise
+    form-passed = go (first fs) (first (judgedStops f register)) (first-most 32 fs refl) (sym (first-append fs (judgedStops f register) refl) ∙ sym number-is ∙ e)
+      where
+        go : (m n : ℕ) → m ≤ 32 → otherwise m n ≡ k → (m ≡ 0) × (n ≡ k)
+        go zero n d h = (refl, h)
+        go (suc m) n d h = absurd (omega arith)
+
+    pub judged-number : first (judgedStops f register) ≡ k
+    judged-number = form-passed .1
+
+    pub form-none : None fs
+    unfolding formStops callStops fileStops numbered
+    form-none = first-clear fs refl (form-passed .0)
+
+    pub form-clear : Formed f register
+    unfolding formStop
+    form-clear = clear (f .mode) (f .reception) register (f .rows) (f .hgv) (form-passed .0)
 
   -- ---- a stop
 

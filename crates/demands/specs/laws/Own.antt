@@ -5,6 +5,7 @@ use mathlib.Core.Bool.{Bool, true, false, not, cond, _&&_, true≢false}
 use mathlib.Core.List.{List, [], _∷_, _++_, map}
 use Prim.Native.Nat.{ℕ}
 use native.Mathlib.Omega.{arith}
+use lib.ListN.{length}
 use borrow.Author.Tests.{not-true}
 use Rattle.theory.specs.laws.Truth.{or-left, or-right}
 use Rattle.theory.specs.Same.{eqs}
@@ -15,13 +16,19 @@ use Rattle.theory.specs.Walk.{some}
 use Rattle.theory.specs.Keep.{onto, sift}
 use Rattle.theory.specs.laws.Keep.{sift-append, sift-length, sift-passes, sift-all, sift-apart, sift-inside}
 use Rattle.columns.specs.Columns.{actor, panOf}
-use Rattle.slots.specs.Search.{holdsPan, ofActor, holdsForeign, heldByAnother}
+use Rattle.slots.specs.Search.{holdsPan, ofActor, holdsForeign, heldByAnother, countOf}
 use Rattle.holdings.specs.Holdings.{storedOn, stored, storedAll, others, replacedAll, holdings}
 use Rattle.sizes.specs.Modes.{isFull}
 use Rattle.holdings.specs.laws.Storing.{own-free, free-stored}
 use Rattle.applying.specs.Fit.{Fit}
 use Rattle.applying.specs.laws.Others.{each-own, each-free}
 use Rattle.demands.specs.Own.{own}
+
+-- ---- how many they are
+
+pub count-own : (who : List ℕ) (R : List (List ℕ)) → countOf who R ≡ length (own who R)
+unfolding countOf own
+count-own who R = refl
 
 -- ---- his own import
 

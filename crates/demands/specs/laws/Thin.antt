@@ -9,7 +9,7 @@ use lib.ListN.{length, getD, length-append, length-map}
 use borrow.Author.Tests.{eqb-true, ltb-false}
 use Rattle.theory.specs.laws.Truth.{and-none}
 use Rattle.theory.specs.First.{Rule, None, first, choose}
-use Rattle.theory.specs.laws.First.{numbered, first-clear, first-none, first-append, first-most, numberedTo, numberedBy, first-passes, otherwise}
+use Rattle.theory.specs.laws.First.{first-none, numberedBy, first-passes}
 use Rattle.theory.specs.Same.{eqs}
 use Rattle.theory.specs.laws.Same.{eqs-true}
 use Rattle.theory.specs.Walk.{some}
@@ -31,7 +31,7 @@ use Rattle.holdings.specs.Holdings.{storedAll, others, replacedAll, holdings}
 use Rattle.holdings.specs.laws.Storing.{all-grows}
 use Rattle.thinness.specs.Thin.{thin}
 use Rattle.thinness.specs.laws.Thin.{thin-so, thin-only, thick-half}
-use Rattle.stops.specs.Stops.{callStops, fileStops, formStops, formStop}
+use Rattle.stops.specs.Stops.{formStops, formStop}
 use Rattle.stops.specs.laws.Clear.{clear}
 use Rattle.importer.specs.declared.Imported.{Imported}
 use Rattle.importer.specs.Handed.{Handed}
@@ -47,9 +47,9 @@ use Rattle.updating.specs.Update.{copyStops, receiptStops, updateNumber}
 use Rattle.updating.specs.Promises.{Update}
 use Rattle.demands.specs.Own.{own}
 use Rattle.demands.specs.Verdicts.{Verdicts}
-use Rattle.demands.specs.laws.Own.{own-holdings, own-stays}
+use Rattle.demands.specs.laws.Own.{count-own, own-holdings, own-stays}
 use Rattle.demands.specs.laws.Judging.{judged-is}
-use Rattle.demands.specs.laws.Imports.{number-is, number-0, refused-register}
+use Rattle.demands.specs.laws.Imports.{number-is, number-0, judged-number, form-none, form-clear, refused-register}
 use Rattle.demands.specs.laws.Answered.{update-is}
 use Rattle.demands.specs.laws.Exact as exact
 
@@ -82,23 +82,9 @@ module _ (f : Handed) (register : List ℕ) (r : Imported) (b g : List ℕ) (o :
     pub empty-stops : None fs → f .mode ≡ full → linesIn (f .hgv) ≡ 0 → 0 < countOf from (records register) → r .number ≡ 35
     empty-stops n m z l = stopped-so n m (omega (arith, l, z, tallies vs, v .for-each, length-lines (f .hgv)))
 
-    -- no stop of form has this number
-    form-passed : r .number ≡ 35 → (first fs ≡ 0) × (first (judgedStops f register) ≡ 35)
-    unfolding importNumber stops formStops callStops fileStops numbered numberedTo otherwise
-    form-passed e =
-        go (first fs) (first (judgedStops f register)) (first-most 32 fs refl) (sym (first-append fs (judgedStops f register) refl) ∙ sym (number-is f register r b g o) ∙ e)
-      where
-        go : (m n : ℕ) → m ≤ 32 → otherwise m n ≡ 35 → (m ≡ 0) × (n ≡ 35)
-        go zero n l k = (refl, k)
-        go (suc m) n l k = absurd (omega arith)
-
-    form-none : r .number ≡ 35 → None fs
-    unfolding formStops callStops fileStops numbered
-    form-none e = first-clear fs refl (form-passed e .0)
-
     is-thin : r .number ≡ 35 → isThin ≡ true
     unfolding judgedStops first choose
-    is-thin e = go isThin (ltb (slotsIn register) (length (following f register))) (ltb (length (f .hgc)) (length (confirmed f register))) (rw verdicts-are at (form-passed e .1))
+    is-thin e = go isThin (ltb (slotsIn register) (length (following f register))) (ltb (length (f .hgc)) (length (confirmed f register))) (rw verdicts-are at (judged-number f register r b g o 35 (omega arith) e))
       where
         go : (t s u : Bool) → choose t 35 (choose s 33 (choose u 34 0)) ≡ 35 → t ≡ true
         go true s u k = refl
@@ -107,19 +93,14 @@ module _ (f : Handed) (register : List ℕ) (r : Imported) (b g : List ℕ) (o :
         go false false false k = absurd (omega arith)
 
     pub stopped-only : r .number ≡ 35 → None fs × ((f .mode ≡ full) × (2 * tally good vs < countOf from (records register)))
-    stopped-only e = (form-none e, thin-only (f .mode) from (records register) (tally good vs) (is-thin e))
+    stopped-only e = (form-none f register r b g o 35 (omega arith) e, thin-only (f .mode) from (records register) (tally good vs) (is-thin e))
 
     pub has-room : r .number ≡ 35 → length (holdings (f .mode) from (slotOf (fileStamp f)) (records register) (pick good vs (linesOf (f .hgv)))) ≤ slotsIn register
     unfolding following taken
     has-room e =
-        rw verdicts-are at (ltb-false (slotsIn register) (length (following f register)) (never-both f register (clear-form (form-none e)) (rw verdicts-are (is-thin e))))
+        rw verdicts-are at (ltb-false (slotsIn register) (length (following f register)) (never-both f register (form-clear f register r b g o 35 (omega arith) e) (rw verdicts-are (is-thin e))))
 
 -- ---- what an import leaves of the records held for an actor
-
--- they are his own
-count-own : (who : List ℕ) (R : List (List ℕ)) → countOf who R ≡ length (own who R)
-unfolding countOf own
-count-own who R = refl
 
 -- nothing stops the import
 module _ (f : Handed) (register : List ℕ) (e : importNumber f register ≡ 0) where

@@ -1,14 +1,14 @@
 -- Laws of how many slots are used when lines have been applied. Assumes nothing.
 use mathlib.Core.Path.{_≡_, refl, sym, ap₂, _∙_}
-use mathlib.Core.Bool.{Bool, true, false, cond}
+use mathlib.Core.Bool.{Bool, true, false, not, cond}
 use mathlib.Core.List.{List, _∷_, _++_, map}
-use Prim.Native.Nat.{ℕ, _+_}
+use Prim.Native.Nat.{ℕ, _+_, _≤_}
 use native.Mathlib.Omega.{arith}
 use lib.ListN.{length, length-append, length-map}
 use borrow.Author.Tests.{eq-eqb}
 use Rattle.theory.specs.Each.{Each, none, more}
 use Rattle.theory.specs.Keep.{sift}
-use Rattle.theory.specs.laws.Keep.{length-onto, sift-counts}
+use Rattle.theory.specs.laws.Keep.{length-onto, sift-length, sift-counts}
 use Rattle.theory.specs.Distinct.{distinct}
 use Rattle.columns.specs.Columns.{panOf}
 use Rattle.slots.specs.Search.{ofActor, countOf}
@@ -16,7 +16,19 @@ use Rattle.sizes.specs.Sizes.{full}
 use Rattle.holdings.specs.Holdings.{storedAll, others, replacedAll, holdings}
 use Rattle.sizes.specs.Modes.{isFull}
 use Rattle.holdings.specs.Room.{isNew, usedAfter}
-use Rattle.holdings.specs.laws.Storing.{length-all}
+use Rattle.holdings.specs.laws.Storing.{all-most, length-all}
+
+-- no more records follow than there are, and a record for each line
+pub holdings-most : (mode : ℕ) (who : List ℕ) (make : List ℕ → List ℕ) (R ls : List (List ℕ)) → length (holdings mode who make R ls) ≤ length R + length ls
+unfolding holdings replacedAll others
+holdings-most mode who make R ls = go (isFull mode)
+  where
+    xs : List (List ℕ)
+    xs = map make ls
+
+    go : (b : Bool) → length (cond b (others who R ++ xs) (storedAll R xs)) ≤ length R + length ls
+    go true = omega (arith, length-append (others who R) xs, length-map ls make, sift-length (λ r. not (ofActor who r)) R)
+    go false = omega (arith, all-most xs R, length-map ls make)
 
 -- full: the sender's records go, and the lines come
 pub used-full : (mode : ℕ) (who : List ℕ) (R ls : List (List ℕ)) → mode ≡ full → usedAfter mode who R ls + countOf who R ≡ length R + length ls

@@ -69,6 +69,16 @@ unfolding storedAll
 all-grows [] R = omega arith
 all-grows (x ∷ xs) R = omega (arith, stored-grows x R, all-grows xs (stored x R))
 
+-- by no more than one each
+pub all-most : (xs R : List (List ℕ)) → length (storedAll R xs) ≤ length R + length xs
+unfolding storedAll bump
+all-most [] R = omega arith
+all-most (x ∷ xs) R = omega (arith, length-stored x R, one (isNew R x), all-most xs (stored x R))
+  where
+    one : (b : Bool) → bump b (length R) ≤ suc (length R)
+    one true = omega arith
+    one false = omega arith
+
 -- another PAN is held after as before
 pub held-other : (p x : List ℕ) (R : List (List ℕ)) → eqs (panOf x) p ≡ false → some (holdsPan p) (stored x R) ≡ some (holdsPan p) R
 unfolding stored storedOn some holdsPan

@@ -10,7 +10,8 @@ use Rattle.theory.specs.First.{Decided, None, more, none}
 use Rattle.theory.specs.laws.First.{decided, first-clear, numbered}
 use Rattle.theory.specs.laws.Stopped.{at-stop, at-success}
 use Rattle.theory.specs.Every.{run}
-use Rattle.theory.specs.laws.Keep.{sift-counts}
+use Rattle.theory.specs.Keep.{sift}
+use Rattle.theory.specs.laws.Keep.{sift-counts, sift-rest, sift-same}
 use Rattle.sizes.specs.Sizes.{timeLength}
 use Rattle.fields.specs.Field.{zeroDigit}
 use Rattle.times.specs.Time.{realTime}
@@ -27,6 +28,10 @@ use Rattle.sweeping.specs.Sweep.{ended, going, staying, sweepStops, swee
 use Rattle.sweeping.specs.Promises.{Sweep}
 
 -- ---- a record
+
+not-not : (b : Bool) → not (not b) ≡ b
+not-not true = refl
+not-not false = refl
 
 -- it goes exactly where it is not active
 pub ended-is : (t r : List ℕ) → ended t r ≡ not (active t r)
@@ -50,6 +55,21 @@ pub goes-or-stays : (t : List ℕ) (R : List (List ℕ)) → length (going t R) 
 unfolding going staying
 goes-or-stays t R = sift-counts (ended t) R
 
+-- those that are active stay,
+pub staying-active : (t : List ℕ) (R : List (List ℕ)) → staying t R ≡ sift (active t) R
+unfolding staying
+staying-active t R = sift-same (λ r. not (ended t r)) (active t) (λ r. rw (ended-is t r) (not-not (active t r))) R
+
+-- and the others go
+pub going-inactive : (t : List ℕ) (R : List (List ℕ)) → going t R ≡ sift (λ r. not (active t r)) R
+unfolding going
+going-inactive t R = sift-same (ended t) (λ r. not (active t r)) (ended-is t) R
+
+-- where none goes all stay
+pub none-goes : (t : List ℕ) (R : List (List ℕ)) → length (going t R) ≡ 0 → staying t R ≡ R
+unfolding going staying
+none-goes t R = sift-rest (ended t) R
+
 -- ---- the call
 
 -- where the number is 0, neither 22 nor 23 holds
@@ -61,24 +81,24 @@ sweep-clear t b z = go (first-clear (sweepStops t b) refl z)
     go (more h (more k none)) = (not-false (realTime t) h, not-false (inOrder b) k)
 
 module _ (t register : List ℕ) (r : Swept) (b : List ℕ) (o : Sweep t register r b) where
-  number-is : r .number ≡ sweepNumber t register
+  pub sweep-number : r .number ≡ sweepNumber t register
   unfolding Sweep sweepAnswer
-  number-is = ap (λ (s : Swept). s .number) (o .0)
+  sweep-number = ap (λ (s : Swept). s .number) (o .0)
 
   pub sweep-decided : Decided (sweepStops t register) (r .number)
   unfolding sweepNumber sweepStops numbered
-  sweep-decided = decided (sweepStops t register) refl (r .number) number-is
+  sweep-decided = decided (sweepStops t register) refl (r .number) sweep-number
 
   -- a refusal has no count, and leaves the register
   pub sweep-refused : (r .number ≡ 0 → ⊥) → (r ≡ record { number = r .number; removed = 0 }) × (b ≡ register)
   unfolding Sweep sweepAnswer registerSwept
   sweep-refused k =
-      let stop : sweepNumber t register ≡ 0 → ⊥ = λ z. k (number-is ∙ z) in
-      (o .0 ∙ rw (at-stop (sweepNumber t register) (length (going t (records register))) 0 stop, number-is), o .1 ∙ at-stop (sweepNumber t register) (sweptBytes t register) register stop)
+      let stop : sweepNumber t register ≡ 0 → ⊥ = λ z. k (sweep-number ∙ z) in
+      (o .0 ∙ rw (at-stop (sweepNumber t register) (length (going t (records register))) 0 stop, sweep-number), o .1 ∙ at-stop (sweepNumber t register) (sweptBytes t register) register stop)
 
   module _ (z : r .number ≡ 0) where
     clear : sweepNumber t register ≡ 0
-    clear = sym number-is ∙ z
+    clear = sym sweep-number ∙ z
 
     -- 22 and 23 do not hold
     pub sweep-real : realTime t ≡ true

@@ -96,8 +96,27 @@ module _ {A : Type 0} (p : A → Bool) where
   sift-none none = refl
   sift-none (more h hs) = rw h (sift-none hs)
 
--- ---- two tests, one after the other
+  -- where none passes all are left
+  pub sift-rest : (xs : List A) → length (sift p xs) ≡ 0 → sift (λ x. not (p x)) xs ≡ xs
+  unfolding sift onto
+  sift-rest [] h = refl
+  sift-rest (x ∷ xs) h = go (p x) h (sift-rest xs)
+    where
+      go : (b : Bool) → length (onto b x (sift p xs)) ≡ 0 → (length (sift p xs) ≡ 0 → sift (λ y. not (p y)) xs ≡ xs)
+          → onto (not b) x (sift (λ y. not (p y)) xs) ≡ x ∷ xs
+      go true k ih = absurd (omega arith)
+      go false k ih = rw (ih k)
 
+-- ---- two tests
+
+module _ {A : Type 0} (p q : A → Bool) where
+  -- that say the same
+  pub sift-same : ((x : A) → p x ≡ q x) → (xs : List A) → sift p xs ≡ sift q xs
+  unfolding sift
+  sift-same g [] = refl
+  sift-same g (x ∷ xs) = rw (g x, sift-same g xs)
+
+-- one after the other
 module _ {A : Type 0} (p q : A → Bool) where
   pub sift-apart : ((x : A) → q x ≡ true → p x ≡ false) → (xs : List A) → sift p (sift q xs) ≡ []
   sift-apart g xs = sift-none p (each-map g (sift-passes q xs))

@@ -1,9 +1,9 @@
-//! The vectors on registers, lookups, imports and the provider's side; of these the import: mode, reception, rows, register
+//! The vectors on registers, lookups, sweeps, imports and the provider's side; of these the import: mode, reception, rows, register
 //! and HGV by their letters, the length of the HGC's buffer, the HGV's where it is not its own, and a place of the HGV changed.
 
 use super::answer::{kept, slots};
 use super::blocks::{change, field, letters, number, rest, sent};
-use super::{found, many, pairs, Answer, Samples};
+use super::{found, many, pairs, sweeps, Answer, Samples};
 use crate::plain;
 
 /// A byte that stands in none of these HGCs.
@@ -47,6 +47,8 @@ pub fn answer(samples: &Samples, tag: &[u8], f: &[u8]) -> Option<Answer> {
         b"slots   " => many::of_slots(f),
         b"readback" => pairs::of_read(samples, f),
         b"update  " => pairs::of_update(samples, f),
+        b"sweep   " => sweeps::of_sweep(samples, f),
+        b"gone    " => sweeps::of_gone(samples, f),
         _ => found::answer(samples, tag, f),
     }
 }
