@@ -105,7 +105,11 @@ option!(
 );
 option!(HGV, "hgv", "OUT", Kind::File, "Where the list is written.");
 option!(TEMPLATE, "template", "Prints a CSV file to begin with: the names of the fields, and three accounts.");
-option!(FORCE, "force", "Replaces what is there, of whatever kind it is.");
+option!(
+    FORCE,
+    "force",
+    "Does what is refused without it: replaces a file of another kind, sweeps at a time that lies ahead."
+);
 option!(WEIGHTS, "weights", "Only the records whose weight a line of their tariff cannot have, as a list.");
 option!(LISTS, "lists", "Counts the records by the list that touched each last.");
 option!(REJECTED, "rejected", "Only the lines that were rejected.");

@@ -106,13 +106,40 @@ fn dry_run() {
     let _held = lock::take(&Place::at(folder.path("register")), None).expect("it is free");
     assert_eq!(said(&folder, &line), told);
     let json = said(&folder, &line.replace("--dry-run", "--dry-run --json"));
-    assert_eq!(json, "{\"status\":0,\"at\":\"20250401000000\",\"removed\":3,\"left\":2,\"dry_run\":true}\n");
-    for beside in ["--wait 1", "--journal @journal", "--wait 1 --journal @journal"] {
+    let fields = "\"at\":\"20250401000000\",\"removed\":3,\"left\":2,\"active\":0,\"dry_run\":true";
+    assert_eq!(json, format!("{{\"status\":0,{fields}}}\n"));
+    for beside in ["--wait 1", "--journal @journal", "--force", "--wait 1 --journal @journal"] {
         let done = graftspindle(&folder, &format!("sweep --dry-run {beside} @register"));
         assert_eq!((done.status, done.said.as_str()), (1, ""), "{beside}");
-        assert!(done.fault.contains("beside --dry-run neither --wait nor --journal is taken"), "{}", done.fault);
+        assert!(
+            done.fault.contains("beside --dry-run neither --wait nor --journal nor --force is taken"),
+            "{}",
+            done.fault
+        );
     }
     assert!(folder.all() == before);
+}
+
+/// A time to come: what is active now stays unless it is forced; what has ended goes by any time.
+#[test]
+fn time_that_lies_ahead() {
+    let folder = ready();
+    let records = [line_until(0, BEFORE), line_until(1, NO_END), line_until(2, "99991231235959")];
+    let before = [slots(records.clone()), vec![0; SLOT]].concat();
+    folder.write("register", &before);
+    let line = "sweep --at 99991231235959 @register";
+    let dry = said(&folder, &line.replace("sweep", "sweep --dry-run"));
+    assert_eq!(dry, "at 99991231235959: 2 would go, 1 of them active now, and 1 be left; nothing is changed\n");
+    assert!(said(&folder, &line.replace("sweep", "sweep --dry-run --json")).contains("\"active\":1,"));
+    let done = graftspindle(&folder, line);
+    assert_eq!((done.status, done.said.as_str()), (1, ""));
+    assert!(done.fault.contains("1 record active now would go: the time lies ahead"), "{}", done.fault);
+    assert!(folder.read("register") == before);
+    let ended = said(&folder, &line.replace("99991231235959", "99991231235958"));
+    assert!(ended.starts_with("swept at 99991231235958: removed 1, left 2\n"), "{ended}");
+    let forced = said(&folder, &line.replace("sweep", "sweep --force"));
+    assert!(forced.starts_with("swept at 99991231235959: removed 1, left 1\n"), "{forced}");
+    assert!(folder.read("register") == [slots([records[1].clone()]), vec![0; 3 * SLOT]].concat());
 }
 
 #[test]
@@ -351,10 +378,12 @@ fn copy_without_room() {
     assert!(folder.read("copy") == folder.read("register"));
 }
 
+const USAGE: &str = "graftspindle sweep [--at YYYYMMDDhhmmss] [--dry-run] [--wait SECONDS] [--journal J] [--force] R\n";
+
 #[test]
 fn help() {
     let told = said(&Folder::new(), "help sweep");
-    assert!(told.starts_with("graftspindle sweep [--at YYYYMMDDhhmmss] [--dry-run] [--wait SECONDS] [--journal J] R\n"));
+    assert!(told.starts_with(USAGE));
     for words in
         ["every provider has to sweep his copy", "one who sent nothing too", "swept at, UTC", "changes nothing."]
     {
