@@ -13,7 +13,7 @@ use Rattle.theory.specs.Pick.{good}
 use Rattle.theory.specs.Tally.{tally}
 use Rattle.times.specs.Order.{earlier}
 use Rattle.lines.specs.End.{active}
-use Rattle.sizes.specs.Sizes.{slotLength}
+use Rattle.sizes.specs.Sizes.{slotLength, full}
 use Rattle.header.specs.Header.{sender}
 use Rattle.hgv.specs.Layout.{linesOf}
 use Rattle.slots.specs.Slots.{slotsIn, records, usedIn}
@@ -22,6 +22,9 @@ use Rattle.lookups.specs.Promises.{ByPlate}
 use Rattle.importer.specs.declared.Imported.{Imported}
 use Rattle.importer.specs.Handed.{Handed}
 use Rattle.importer.specs.Promises.{Import}
+use Rattle.provider.specs.declared.Counted.{Counted}
+use Rattle.updating.specs.Sent.{Sent}
+use Rattle.updating.specs.Promises.{Update}
 use Rattle.sweeping.specs.declared.Swept.{Swept}
 use Rattle.sweeping.specs.Sweep.{ended}
 use Rattle.sweeping.specs.Promises.{Sweep}
@@ -29,6 +32,7 @@ use Rattle.sweeping.specs.laws.Sweep.{ended-is, staying-active, going-inactive,
 use Rattle.demands.specs.Own.{own}
 use Rattle.demands.specs.Verdicts.{Verdicts}
 use Rattle.demands.specs.laws.Sweeps as laws
+use Rattle.demands.specs.laws.Mended as mended
 
 -- "every record whose end is not zeros and not later than T": that is every record that is not active at T
 pub ended-exactly : (t x : List ℕ) → ended t x ≡ not (active t x)
@@ -79,3 +83,8 @@ module _ (t register : List ℕ) (r : Swept) (b : List ℕ) (o : Sweep t registe
   -- where none went, nothing changed
   pub none-went : r .removed ≡ 0 → b ≡ register
   none-went = laws.idle-register t register r b o
+
+-- A provider who was not told of a sweep gets right by his next full list: what an update in mode 2 leaves does not hang on what the copy held
+pub full-mends : (s : Sent) → s .mode ≡ full → (copy copy′ : List ℕ) → slotsIn copy ≡ slotsIn copy′ → (u u′ : Counted) (c c′ : List ℕ)
+    → Update s copy u c → u .number ≡ 0 → Update s copy′ u′ c′ → u′ .number ≡ 0 → c ≡ c′
+full-mends = mended.full-mends

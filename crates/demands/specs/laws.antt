@@ -13,3 +13,4 @@ pub mod Exact
 pub mod Thin
 pub mod Stamps
 pub mod Sweeps
+pub mod Mended
