@@ -7,6 +7,7 @@ ghost use Rattle.calendar.specs.Promises.{IsDay, IsMoment, Seconds, Mome
 
 // The seconds of a day, and those of the years 0001 to 9999.
 const DAY: u64 = 86400;
+
 pub const ALL: u64 = 315537897600;
 
 pub struct Moment {

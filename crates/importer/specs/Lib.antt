@@ -1,4 +1,5 @@
 pub mod Handed
 pub mod Import
+pub mod Shown
 pub mod Promises
 pub mod laws

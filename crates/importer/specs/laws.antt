@@ -3,3 +3,4 @@ pub mod Numbers
 pub mod Follows
 pub mod Thin
 pub mod Outcomes
+pub mod Shown

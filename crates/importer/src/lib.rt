@@ -213,7 +213,15 @@ fn import_lines(
 {
     verdicts::judge(hgv, rows, register, verdicts);
     import_judged(
-        mode, reception, ahead, register, rows, hgv, hgc, verdicts, found,
+        mode,
+        reception,
+        ahead,
+        register,
+        rows,
+        hgv,
+        hgc,
+        verdicts,
+        found,
     )
 }
 

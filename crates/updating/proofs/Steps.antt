@@ -84,8 +84,7 @@ pub utc-fits : (mode ahead : ℕ) (h g : List ℕ) → sentHolds (sent mode (off
     → (ahead ≤ aheadMost) × (isReal (utcTime (offsetOf ahead) t) ≡ true)
 unfolding sentHolds utcHolds
 utc-fits mode ahead h g k t e =
-    let u : utcHolds (offsetOf ahead) (receptionOf g) ≡ true = and-right (receiptHolds h g) (utcHolds (offsetOf ahead) (receptionOf g)) k in
-    (
+    let u : utcHolds (offsetOf ahead) (receptionOf g) ≡ true = and-right (receiptHolds h g) (utcHolds (offsetOf ahead) (receptionOf g)) k in (
       offset-most ahead (and-left (offsetHolds (offsetOf ahead)) (isReal (utcTime (offsetOf ahead) (receptionOf g))) u),
       rw e (and-right (offsetHolds (offsetOf ahead)) (isReal (utcTime (offsetOf ahead) (receptionOf g))) u),
     )

@@ -1,4 +1,5 @@
 pub mod Sent
 pub mod Update
+pub mod Shown
 pub mod Promises
 pub mod laws

@@ -1,3 +1,4 @@
 pub mod Numbers
 pub mod Fits
 pub mod Outcomes
+pub mod Shown

@@ -118,5 +118,13 @@ pub fn update(mode: u64, offset: i64, copy: &mut [u8], hgv: &[u8], hgc: &[u8]) -
     let mut marks = [0u8; sizes::LINES_MOST];
     let mut found = [sizes::NO_PLACE; sizes::LINES_MOST];
     let n = hgv::lines_in(hgv);
-    update_lines(mode, ahead, copy, hgv, hgc, &mut marks[..n], &mut found[..n])
+    update_lines(
+        mode,
+        ahead,
+        copy,
+        hgv,
+        hgc,
+        &mut marks[..n],
+        &mut found[..n],
+    )
 }

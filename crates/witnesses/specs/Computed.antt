@@ -1,11 +1,12 @@
 -- What the definitions say of small files, computed: single files, two in a row, seven of two providers with the copy of one, updated
 -- late, and a full register that is swept, with the copies of both. Assumes nothing.
 use mathlib.Core.Path.{_≡_, refl}
-use mathlib.Core.Bool.{false}
+use mathlib.Core.Bool.{true, false}
 use mathlib.Core.List.{List, [], _∷_, _++_}
 use lib.ListN.{take, drop}
 use Rattle.theory.specs.Text.{bytes}
-use Prim.Native.Nat.{ℕ}
+use Prim.Native.Nat.{ℕ, _+_, _*_}
+use lib.IntN.{pos}
 use Rattle.theory.specs.Count.{bump, count}
 use Rattle.theory.specs.Distinct.{distinct}
 use Rattle.theory.specs.Every.{all, run, leading}
@@ -25,11 +26,12 @@ use Rattle.numbers.specs.Number.{numberAfter, number, decimal, zeros}
 use Rattle.pans.specs.Pan.{pan, doubled, addend, luhnSum, luhn}
 use Rattle.plates.specs.Plate.{allowed, plate, nationality, separated, separator}
 use Rattle.issuers.specs.Rows.{rowHolds, rowsHold, sentBy, rowBegins, rowFits, known, someRowBegins, someRowFits}
-use Rattle.calendar.specs.Calendar.{daysIn}
+use Rattle.calendar.specs.Calendar.{daysIn, sum}
 use Rattle.times.specs.Time.{realTime, realDate}
 use Rattle.vehicles.specs.Vehicle.{tariffHolds, classHolds, emissionHolds, productHolds, engineHolds, validToHolds, separatorHolds, fieldsHold, vehicleHolds}
 use Rattle.weights.specs.Weights.{limits, meets, meetsEach, missing, allows, weightHolds}
 use Rattle.times.specs.Order.{earlier}
+use Rattle.times.specs.laws.Almanac.{secondsBy, daysBy}
 use Rattle.lines.specs.End.{endOf, recordOf}
 use Rattle.lines.specs.Rules.{L1, L2, L3, L4, L5, L6, L7, nationalityBlank, L8, L9, rulesBy, lineRules, recordHolds, L10}
 use Rattle.lines.specs.laws.Starred.{starred}
@@ -54,13 +56,17 @@ use Rattle.thinness.specs.Thin.{thin}
 use Rattle.stops.specs.Stops.{modeHolds, fullWith220001, addressed, callStops, fileStops, formStops, formStop}
 use Rattle.theory.specs.Stopped.{unlessStopped}
 use Rattle.importer.specs.Handed.{Handed}
-use Rattle.importer.specs.Import.{judged, following, confirmed, judgedStops, stops, importNumber, refusal, success, registerAfter, hgcAfter, importAnswer, registerWritten, hgcWritten}
+use Rattle.importer.specs.Import.{judged, following, refusal, registerWritten}
+use Rattle.importer.specs.Shown.{confirmedAs, stopsAs, numberAs, answerAs, registerAs, hgcAs}
 use Rattle.importer.specs.declared.Imported.{Imported}
 use Rattle.pairing.specs.Pairing.{isTaken, marksFrom, marks, left}
-use Rattle.receipts.specs.Receipt.{answersIn, behindHead, answersOf, lengthForm, headForm, answerForm, formHolds, namesHold, outcomeHolds, reasonHolds, textsOf, copiesOf, marksOf, takenBy, sameTexts, copiesHold, countsHold, lineHolds, takenHold, saysHold, linesHold, receiptHolds}
+use Rattle.receipts.specs.Receipt.{answersIn, behindHead, answersOf, lengthForm, headForm, answerForm, formHolds, namesHold, outcomeHolds, reasonHolds, textsOf, copiesOf, marksOf, takenBy, sameTexts, copiesHold, countsHold, lineHolds, takenHold, saysHold, linesHold, receptionOf, receiptHolds}
+use Rattle.provider.specs.declared.Counted.{Counted}
 use Rattle.provider.specs.Answer.{stopCounts, successCounts}
 use Rattle.updating.specs.Sent.{Sent, sent}
-use Rattle.updating.specs.Update.{ownHolds, copyStops, copyFollowing, receiptStops, updateNumber, updateAnswer, copyWritten, copyAfter}
+use Rattle.updating.specs.Update.{ownHolds, copyStops}
+use Rattle.updating.specs.Shown as updates
+use Rattle.updating.specs.Shown.{followingAs, copyAs}
 use Rattle.sweeping.specs.declared.Swept.{Swept}
 use Rattle.sweeping.specs.Sweep.{ended, going, staying, sweepStops, sweepNumber, sweepAnswer, sweptBytes, registerSwept}
 use Rattle.demands.specs.History.{Entry, apply, sweep, Answer, of-update, of-sweep, empty}
@@ -68,17 +74,17 @@ use Rattle.witnesses.specs.Files as files
 
 -- what is handed over with a file
 abbrev pub with : ℕ → List ℕ → Handed
-with mode h = record { mode = mode; reception = files.reception; rows = files.rows; hgv = h; hgc = files.buffer }
+with mode h = record { mode = mode; reception = files.reception; offset = pos 0; rows = files.rows; hgv = h; hgc = files.buffer }
 
--- the answer to it beside this register, the register after it, and the buffer
+-- the answer to it beside this register, the register after it, and the buffer: as with no offset, which is what this is
 abbrev pub answerTo : List ℕ → Handed → Imported
-answerTo register f = importAnswer f register
+answerTo register f = answerAs (realTime (f .reception)) (f .reception) f register
 
 abbrev pub after : List ℕ → Handed → List ℕ
-after register f = registerAfter f register
+after register f = registerAs (realTime (f .reception)) (f .reception) f register
 
 abbrev pub bufferAfter : List ℕ → Handed → List ℕ
-bufferAfter register f = hgcAfter f register
+bufferAfter register f = hgcAs (realTime (f .reception)) (f .reception) f register
 
 abbrev pub counts4 : ℕ → ℕ → ℕ → ℕ → Imported
 counts4 number taken rejected size = record { number = number; taken = taken; rejected = rejected; length = size }
@@ -193,18 +199,25 @@ pub record Seven : Type 0 where
 
 -- what a provider was sent with a file
 abbrev pub sentWith : Handed → List ℕ → Sent
-sentWith f hgc = sent (f .mode) (f .hgv) hgc
+sentWith f hgc = sent (f .mode) (f .offset) (f .hgv) hgc
+
+-- the answer to it beside this copy, and the copy after it, the same way
+abbrev pub answerBy : List ℕ → Sent → Counted
+answerBy copy s = updates.answerAs (receiptHolds (s .hgv) (s .hgc)) (receptionOf (s .hgc)) s copy
+
+abbrev pub updatedBy : List ℕ → Sent → List ℕ
+updatedBy copy s = copyAs (receiptHolds (s .hgv) (s .hgc)) (receptionOf (s .hgc)) s copy
 
 -- the copy after these were done, one after the other
 unfoldable pub copyBy : List ℕ → List Entry → List ℕ
 copyBy copy [] = copy
-copyBy copy (apply s ∷ es) = copyBy (copyAfter s copy) es
+copyBy copy (apply s ∷ es) = copyBy (updatedBy copy s) es
 copyBy copy (sweep t ∷ es) = copyBy (registerSwept t copy) es
 
 -- and what they answered, the last in front
 unfoldable pub answersBy : List ℕ → List Answer → List Entry → List Answer
 answersBy copy us [] = us
-answersBy copy us (apply s ∷ es) = answersBy (copyAfter s copy) (of-update (updateAnswer s copy) ∷ us) es
+answersBy copy us (apply s ∷ es) = answersBy (updatedBy copy s) (of-update (answerBy copy s) ∷ us) es
 answersBy copy us (sweep t ∷ es) = answersBy (registerSwept t copy) (of-sweep (sweepAnswer t copy) ∷ us) es
 
 abbrev pub counts3 : ℕ → ℕ → ℕ → Answer
@@ -299,8 +312,57 @@ pub record Emptied : Type 0 where
   pub their-copy : copyBy (empty 2) (apply (sentWith file₂ hgc₂) ∷ sweeps) ≡ emptied
   pub their-answers : answersBy (empty 2) [] (apply (sentWith file₂ hgc₂) ∷ sweeps) ≡ of-sweep (went 22 0) ∷ of-sweep (went 0 0) ∷ counts3 0 1 0 ∷ []
 
+-- ---- two files of one provider, and summer time between them
+
+-- the first at an hour ahead of UTC, the second at two
+abbrev pub file₁₁ : Handed
+file₁₁ = record { mode = 1; reception = files.winter; offset = pos 60; rows = files.rows; hgv = files.file files.one (bytes "11") files.single files.ended; hgc = files.buffer }
+
+abbrev pub file₁₂ : Handed
+file₁₂ = record { mode = 1; reception = files.summer; offset = pos 120; rows = files.rows; hgv = files.file files.one (bytes "12") files.single files.other; hgc = files.buffer }
+
+-- the account ended with the first reception: ends and stamps are in UTC
+abbrev endedAt : List ℕ → List ℕ
+endedAt t = take 100 files.ended ++ t ++ drop 114 files.ended
+
+abbrev pub register₁₁ : List ℕ
+register₁₁ = files.slotAt files.winter files.one (bytes "11") (endedAt files.winter) ++ files.free
+
+abbrev pub register₁₂ : List ℕ
+register₁₂ = files.slotAt files.winter files.one (bytes "11") (endedAt files.winter) ++ files.slotAt files.summer files.one (bytes "12") files.other
+
+-- the HGCs show local time
+abbrev pub hgc₁₁ : List ℕ
+hgc₁₁ = files.confirmedAt files.winterShown files.one (bytes "11") files.single files.none (bytes "00") []
+
+abbrev pub hgc₁₂ : List ℕ
+hgc₁₂ = files.confirmedAt files.summerShown files.one (bytes "12") files.single files.none (bytes "00") []
+
+pub record Summer : Type 0 where
+  pub answer₁₁ : answerAs true files.winterShown file₁₁ (empty 2) ≡ counts4 0 1 0 174
+  pub after₁₁ : registerAs true files.winterShown file₁₁ (empty 2) ≡ register₁₁
+  pub hgc-is₁₁ : take 174 (hgcAs true files.winterShown file₁₁ (empty 2)) ≡ hgc₁₁
+  pub answer₁₂ : answerAs true files.summerShown file₁₂ register₁₁ ≡ counts4 0 1 0 174
+  pub after₁₂ : registerAs true files.summerShown file₁₂ register₁₁ ≡ register₁₂
+  pub hgc-is₁₂ : take 174 (hgcAs true files.summerShown file₁₂ register₁₁) ≡ hgc₁₂
+  -- his copy, by the same offsets
+  pub receipt₁₁ : receiptHolds (file₁₁ .hgv) hgc₁₁ ≡ true
+  pub receipt₁₂ : receiptHolds (file₁₂ .hgv) hgc₁₂ ≡ true
+  pub updated₁₁ : copyAs true files.winter (sentWith file₁₁ hgc₁₁) (empty 2) ≡ register₁₁
+  pub updated₁₂ : copyAs true files.summer (sentWith file₁₂ hgc₁₂) register₁₁ ≡ register₁₂
+  -- by the winter's offset the second would have another stamp
+  pub mistaken₁₂ : eqs (copyAs true files.mistaken (sent 1 (pos 60) (file₁₂ .hgv) hgc₁₂) register₁₁) register₁₂ ≡ false
+  -- the moments by the clock
+  pub winter-by : secondsBy files.winterShown + 43200 ≡ secondsBy files.winter + 780 * 60
+  pub summer-by : secondsBy files.summerShown + 43200 ≡ secondsBy files.summer + 840 * 60
+  pub mistaken-by : secondsBy files.summerShown + 43200 ≡ secondsBy files.mistaken + 780 * 60
+  pub winter-real : realTime files.winter ≡ true
+  pub winter-shown : realTime files.winterShown ≡ true
+  pub summer-shown : realTime files.summerShown ≡ true
+  pub mistaken-real : realTime files.mistaken ≡ true
+
 -- ---- computed, by every definition that the contracts reach
 
-pub computed : Single × (Seven × (Late × Emptied))
-unfolding takenNext earlier bump distinct all run leading choose first flat onto free pad frontOn front chop good bad pick eqs mem scan tally each some field listed filledTo filled numberAfter number decimal pan doubled addend luhnSum luhn allowed plate nationality separated separator rowHolds rowsHold sentBy rowBegins rowFits known someRowBegins someRowFits daysIn realTime realDate tariffHolds classHolds emissionHolds productHolds engineHolds validToHolds separatorHolds fieldsHold vehicleHolds limits meets meetsEach missing allows weightHolds L10 endOf recordOf slotOf stamp stampHolds L1 L2 L3 L4 L5 L6 L7 nationalityBlank L8 L9 rulesBy lineRules recordHolds starred slotsOf marked usedForm freeForm records usedPart inOrder holdsPan placeOf ofActor holdsForeign heldByAnother countOf widthOf linesIn lengthHolds body linesOf footer footerForm footerHolds framed framesHold sequence previousHolds headerHolds versionHolds incrementalOnly receiverHolds countHolds zeros outcome head answer said answers foot confirmation ownRules verdictRules verdict verdictsOf fileVerdicts taken rejected storedOn stored storedAll others replacedAll isFull holdings usedAfter modeHolds fullWith220001 addressed callStops fileStops formStops formStop judged following confirmed thin judgedStops stops importNumber unlessStopped refusal success registerAfter hgcAfter registerWritten hgcWritten importAnswer empty sift isTaken marksFrom marks left answersIn behindHead answersOf lengthForm headForm answerForm formHolds namesHold outcomeHolds reasonHolds textsOf copiesOf marksOf takenBy sameTexts copiesHold countsHold lineHolds takenHold saysHold linesHold receiptHolds stopCounts successCounts ownHolds copyStops copyFollowing receiptStops updateNumber updateAnswer copyWritten copyAfter count ended going staying sweepStops sweepNumber sweepAnswer sweptBytes registerSwept copyBy answersBy
-computed = (record { good-answer = refl; good-register = refl; empty-answer = refl; empty-hgc = refl; bad-answer = refl; bad-hgc = refl; different = refl; first-register = refl; both-register = refl; both-different = refl; ended-register = refl; ended-hgc = refl }, (record { answer₁ = refl; after₁ = refl; hgc-is₁ = refl; answer₂ = refl; after₂ = refl; hgc-is₂ = refl; answer₃ = refl; after₃ = refl; answer₄ = refl; after₄ = refl; hgc-is₄ = refl; answer₅ = refl; after₅ = refl; answer₆ = refl; after₆ = refl; hgc-is₆ = refl; answer₇ = refl; after₇ = refl }, (record { copy-is = refl; answers-are = refl; their-copy = refl; their-answers = refl }, record { answer₈ = refl; after₈ = refl; hgc-is₈ = refl; answer₂ = refl; after₂ = refl; hgc-is₂ = refl; answer₉ = refl; after₉ = refl; swept-answer = refl; swept-register = refl; unreal-answer = refl; unreal-register = refl; answer₁₀ = refl; after₁₀ = refl; hgc-is₁₀ = refl; his-copy = refl; his-answers = refl; their-copy = refl; their-answers = refl })))
+pub computed : Single × (Seven × (Late × (Emptied × Summer)))
+unfolding takenNext earlier bump distinct all run leading choose first flat onto free pad frontOn front chop good bad pick eqs mem scan tally each some field listed filledTo filled numberAfter number decimal pan doubled addend luhnSum luhn allowed plate nationality separated separator rowHolds rowsHold sentBy rowBegins rowFits known someRowBegins someRowFits daysIn realTime realDate tariffHolds classHolds emissionHolds productHolds engineHolds validToHolds separatorHolds fieldsHold vehicleHolds limits meets meetsEach missing allows weightHolds L10 endOf recordOf slotOf stamp stampHolds L1 L2 L3 L4 L5 L6 L7 nationalityBlank L8 L9 rulesBy lineRules recordHolds starred slotsOf marked usedForm freeForm records usedPart inOrder holdsPan placeOf ofActor holdsForeign heldByAnother countOf widthOf linesIn lengthHolds body linesOf footer footerForm footerHolds framed framesHold sequence previousHolds headerHolds versionHolds incrementalOnly receiverHolds countHolds zeros outcome head answer said answers foot confirmation ownRules verdictRules verdict verdictsOf fileVerdicts taken rejected storedOn stored storedAll others replacedAll isFull holdings usedAfter modeHolds fullWith220001 addressed callStops fileStops formStops formStop judged following thin unlessStopped refusal registerWritten confirmedAs stopsAs numberAs answerAs registerAs hgcAs empty sift isTaken marksFrom marks left answersIn behindHead answersOf lengthForm headForm answerForm formHolds namesHold outcomeHolds reasonHolds textsOf copiesOf marksOf takenBy sameTexts copiesHold countsHold lineHolds takenHold saysHold linesHold receiptHolds stopCounts successCounts ownHolds copyStops followingAs updates.numberAs updates.answerAs copyAs count ended going staying sweepStops sweepNumber sweepAnswer sweptBytes registerSwept copyBy answersBy secondsBy daysBy sum
+computed = (record { good-answer = refl; good-register = refl; empty-answer = refl; empty-hgc = refl; bad-answer = refl; bad-hgc = refl; different = refl; first-register = refl; both-register = refl; both-different = refl; ended-register = refl; ended-hgc = refl }, (record { answer₁ = refl; after₁ = refl; hgc-is₁ = refl; answer₂ = refl; after₂ = refl; hgc-is₂ = refl; answer₃ = refl; after₃ = refl; answer₄ = refl; after₄ = refl; hgc-is₄ = refl; answer₅ = refl; after₅ = refl; answer₆ = refl; after₆ = refl; hgc-is₆ = refl; answer₇ = refl; after₇ = refl }, (record { copy-is = refl; answers-are = refl; their-copy = refl; their-answers = refl }, (record { answer₈ = refl; after₈ = refl; hgc-is₈ = refl; answer₂ = refl; after₂ = refl; hgc-is₂ = refl; answer₉ = refl; after₉ = refl; swept-answer = refl; swept-register = refl; unreal-answer = refl; unreal-register = refl; answer₁₀ = refl; after₁₀ = refl; hgc-is₁₀ = refl; his-copy = refl; his-answers = refl; their-copy = refl; their-answers = refl }, record { answer₁₁ = refl; after₁₁ = refl; hgc-is₁₁ = refl; answer₁₂ = refl; after₁₂ = refl; hgc-is₁₂ = refl; receipt₁₁ = refl; receipt₁₂ = refl; updated₁₁ = refl; updated₁₂ = refl; mistaken₁₂ = refl; winter-by = refl; summer-by = refl; mistaken-by = refl; winter-real = refl; winter-shown = refl; summer-shown = refl; mistaken-real = refl }))))

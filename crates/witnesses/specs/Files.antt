@@ -19,6 +19,24 @@ rows = bytes "97990012      081690012397990012      0816900124"
 abbrev pub reception : List ℕ
 reception = bytes "20250310050000"
 
+-- the night in which summer time begins: half an hour before it and half an hour after, in UTC and as clocks show it that are an
+-- hour ahead before and two hours after
+abbrev pub winter : List ℕ
+winter = bytes "20250330003000"
+
+abbrev pub winterShown : List ℕ
+winterShown = bytes "20250330013000"
+
+abbrev pub summer : List ℕ
+summer = bytes "20250330013000"
+
+abbrev pub summerShown : List ℕ
+summerShown = bytes "20250330033000"
+
+-- the same moment, taken for winter time
+abbrev pub mistaken : List ℕ
+mistaken = bytes "20250330023000"
+
 -- a time that is none: 30 February
 abbrev pub unreal : List ℕ
 unreal = bytes "20250230050000"
@@ -35,9 +53,12 @@ free = replicate slotLength 0
 abbrev pub list : List ℕ → List ℕ → List ℕ
 list from number = bytes "HGV" ++ from ++ bytes "20250310" ++ number
 
--- a used slot: a record, and the stamp of the list that touched it last
+-- a used slot: a record, and the stamp of the list that touched it last, received at t
+abbrev pub slotAt : List ℕ → List ℕ → List ℕ → List ℕ → List ℕ
+slotAt t from number r = r ++ list from number ++ t ++ bytes "0000000"
+
 abbrev pub slot : List ℕ → List ℕ → List ℕ → List ℕ
-slot from number r = r ++ list from number ++ reception ++ bytes "0000000"
+slot = slotAt reception
 
 -- ---- lines
 
@@ -96,11 +117,14 @@ file from number count lines =
     bytes "0" ++ from ++ bytes "000002" ++ list from number ++ bytes "HGV000000000000000000000000000000" ++ count
     ++ bytes "20250310040000120001000000000000000000000000000" ++ lineEnd ++ lines ++ footer
 
--- the HGC that answers such a file: taken and rejected, `00` or `01`, its lines
-abbrev pub confirmed : List ℕ → List ℕ → List ℕ → List ℕ → List ℕ → List ℕ → List ℕ
-confirmed from number taken rejected outcome lines =
-    bytes "0000002" ++ from ++ list from number ++ reception ++ taken ++ rejected
+-- the HGC that answers such a file and shows t as its reception: taken and rejected, `00` or `01`, its lines
+abbrev pub confirmedAt : List ℕ → List ℕ → List ℕ → List ℕ → List ℕ → List ℕ → List ℕ → List ℕ
+confirmedAt t from number taken rejected outcome lines =
+    bytes "0000002" ++ from ++ list from number ++ t ++ taken ++ rejected
     ++ bytes "1200010000000000000000000000000" ++ outcome ++ lineEnd ++ lines ++ footer
+
+abbrev pub confirmed : List ℕ → List ℕ → List ℕ → List ℕ → List ℕ → List ℕ → List ℕ
+confirmed = confirmedAt reception
 
 abbrev pub none : List ℕ
 none = bytes "000000000000000"

@@ -9,6 +9,7 @@ use Rattle.theory.specs.Same.{eqs}
 use Rattle.theory.specs.laws.Same.{eqs-refl}
 use Rattle.importer.specs.declared.Imported.{Imported}
 use Rattle.importer.specs.Promises.{Import}
+use Rattle.importer.specs.laws.Shown.{zero-as}
 use Rattle.importer.specs.Handed.{Handed}
 use Rattle.demands.specs.History.{empty}
 use Rattle.witnesses.specs.Files as files
@@ -37,20 +38,20 @@ module _ (build : Build) (meets : Meets build) where
   facts = computed .0
 
   -- what it makes of a file is what the contract says
-  answer-is : (f : Handed) (register : List ℕ) → build f register .answer ≡ answerTo register f
+  answer-is : (h register : List ℕ) → build (with 1 h) register .answer ≡ answerTo register (with 1 h)
   unfolding Import
-  answer-is f register = meets f register .0
+  answer-is h register = meets (with 1 h) register .0 ∙ zero-as (with 1 h) register refl .answer
 
-  register-is : (f : Handed) (register : List ℕ) → build f register .register ≡ after register f
+  register-is : (h register : List ℕ) → build (with 1 h) register .register ≡ after register (with 1 h)
   unfolding Import
-  register-is f register = meets f register .1 .0
+  register-is h register = meets (with 1 h) register .1 .0 ∙ zero-as (with 1 h) register refl .after
 
-  hgc-is : (f : Handed) (register : List ℕ) → build f register .hgc ≡ bufferAfter register f
+  hgc-is : (h register : List ℕ) → build (with 1 h) register .hgc ≡ bufferAfter register (with 1 h)
   unfolding Import
-  hgc-is f register = meets f register .1 .1
+  hgc-is h register = meets (with 1 h) register .1 .1 ∙ zero-as (with 1 h) register refl .buffer
 
   number-0 : (h : List ℕ) (r : Imported) → answerTo (empty 1) (with 1 h) ≡ r → r .number ≡ 0 → build (with 1 h) (empty 1) .answer .number ≡ 0
-  number-0 h r e z = ap (λ (a : Imported). a .number) (answer-is (with 1 h) (empty 1) ∙ e) ∙ z
+  number-0 h r e z = ap (λ (a : Imported). a .number) (answer-is h (empty 1) ∙ e) ∙ z
 
   -- it does not always stop
   pub not-always-stopping : ((f : Handed) (register : List ℕ) → build f register .answer .number ≡ 0 → ⊥) → ⊥
@@ -60,7 +61,7 @@ module _ (build : Build) (meets : Meets build) where
   pub not-one-hgc : (hgc : List ℕ) → ((f : Handed) (register : List ℕ) → build f register .answer .number ≡ 0 → take (build f register .answer .length) (build f register .hgc) ≡ hgc) → ⊥
   not-one-hgc hgc same =
       let told : (h : List ℕ) (r : Imported) → answerTo (empty 1) (with 1 h) ≡ r → r .number ≡ 0 → take (r .length) (bufferAfter (empty 1) (with 1 h)) ≡ hgc =
-      λ h r e z. rw (← hgc-is (with 1 h) (empty 1), ← e, ← answer-is (with 1 h) (empty 1)) (same (with 1 h) (empty 1) (number-0 h r e z)) in
+      λ h r e z. rw (← hgc-is h (empty 1), ← e, ← answer-is h (empty 1)) (same (with 1 h) (empty 1) (number-0 h r e z)) in
       differ files.whole files.badHgc (facts .different)
       (sym (facts .empty-hgc) ∙ told files.empty _ (facts .empty-answer) refl ∙ sym (told files.bad _ (facts .bad-answer) refl) ∙ facts .bad-hgc)
 
@@ -68,13 +69,13 @@ module _ (build : Build) (meets : Meets build) where
   pub not-unwritten : ((f : Handed) (register : List ℕ) → build f register .register ≡ register) → ⊥
   not-unwritten stays =
       differ held₁ held₂ (facts .both-different)
-      (sym (stays (with 1 files.next) held₁) ∙ register-is (with 1 files.next) held₁ ∙ facts .both-register)
+      (sym (stays (with 1 files.next) held₁) ∙ register-is files.next held₁ ∙ facts .both-register)
 
   -- it does not import the first file alone, and leave the register as it is from then on
   pub not-first-alone : ((n : ℕ) (f f′ : Handed) → build f′ (build f (empty n) .register) .register ≡ build f (empty n) .register) → ⊥
   not-first-alone first =
-      let once : build (with 1 files.good) (empty 2) .register ≡ held₁ = register-is (with 1 files.good) (empty 2) ∙ facts .first-register in
+      let once : build (with 1 files.good) (empty 2) .register ≡ held₁ = register-is files.good (empty 2) ∙ facts .first-register in
       let again : build (with 1 files.next) held₁ .register ≡ held₁ =
       rw (← once) (first 2 (with 1 files.good) (with 1 files.next)) in
       differ held₁ held₂ (facts .both-different)
-      (sym again ∙ register-is (with 1 files.next) held₁ ∙ facts .both-register)
+      (sym again ∙ register-is files.next held₁ ∙ facts .both-register)

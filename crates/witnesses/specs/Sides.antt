@@ -1,9 +1,10 @@
 -- Seven files of two providers: a rejected line, another provider, a refused file, the full list, a full list that is too thin, an
 -- account replaced, and a refused file again. Then a register that is full of what has ended, which a sweep empties for the next file. The
 -- copies are updated afterwards, and hold what we hold for each: so demand 3 speaks of sequences that there are. Assumes nothing.
-use mathlib.Core.Path.{_≡_, refl, sym}
+use mathlib.Core.Path.{_≡_, refl, sym, ap, _∙_}
 use mathlib.Core.List.{List, [], _∷_, _++_}
-use Prim.Native.Nat.{ℕ}
+use Prim.Native.Nat.{ℕ, _+_, _*_}
+use lib.IntN.{ℤ, pos}
 use native.Mathlib.Omega.{arith}
 use Rattle.theory.specs.Text.{bytes}
 use Rattle.theory.specs.Same.{eqs}
@@ -15,7 +16,10 @@ use Rattle.sizes.specs.Sizes.{slotLength}
 use Rattle.slots.specs.Slots.{records}
 use Rattle.importer.specs.declared.Imported.{Imported}
 use Rattle.importer.specs.Promises.{Import}
+use Rattle.importer.specs.laws.Shown.{zero-as, shown-as}
+use Rattle.updating.specs.Sent.{Sent, sent}
 use Rattle.updating.specs.Promises.{Update}
+use Rattle.updating.specs.laws.Shown as updates
 use Rattle.demands.specs.Own.{own}
 use Rattle.importer.specs.Handed.{Handed}
 use Rattle.sweeping.specs.declared.Swept.{Swept}
@@ -24,15 +28,20 @@ use Rattle.sweeping.specs.Promises.{Sweep}
 use Rattle.demands.specs.History.{apply, sweep, of-sweep, Event, acceptance, sweeping, concerns, his, entries, empty, _▸_, Ours, start, accepted, refused, swept, Replay, applied, swept}
 use Rattle.demands.specs.Demand3.{copy-is}
 use Rattle.witnesses.specs.Files as files
-use Rattle.witnesses.specs.Computed.{answerTo, after, bufferAfter, counts4, file₁, file₂, file₃, file₄, file₅, file₆, file₇, theirs, register₁, register₂, register₄, register₆, hgc₁, hgc₂, hgc₄, hgc₆, Seven, Late, sentWith, his₆, copyBy, answersBy, counts3, file₈, file₉, file₁₀, endedBy, begun, packed, emptied, refilled, hgc₈, hgc₁₀, went, Emptied, computed}
+use Rattle.witnesses.specs.Computed.{answerTo, after, bufferAfter, counts4, file₁, file₂, file₃, file₄, file₅, file₆, file₇, theirs, register₁, register₂, register₄, register₆, hgc₁, hgc₂, hgc₄, hgc₆, Seven, Late, sentWith, his₆, copyBy, answersBy, counts3, file₈, file₉, file₁₀, endedBy, begun, packed, emptied, refilled, hgc₈, hgc₁₀, went, Emptied, computed, answerBy, updatedBy, file₁₁, file₁₂, register₁₁, register₁₂, hgc₁₁, hgc₁₂, Summer}
 
 seven : Seven
 seven = computed .1 .0
 
 -- an outcome of an import, told by what was computed
-outcome : (f : Handed) (register : List ℕ) (r : Imported) (b : List ℕ) → answerTo register f ≡ r → after register f ≡ b → Import f register r b (bufferAfter register f)
+outcome : (f : Handed) (register : List ℕ) (r : Imported) (b : List ℕ) → f .offset ≡ pos 0 → answerTo register f ≡ r → after register f ≡ b → Import f register r b (bufferAfter register f)
 unfolding Import
-outcome f register r b e d = (sym e, (sym d, refl))
+outcome f register r b z e d = let k = zero-as f register z in (sym (k .answer ∙ e), (sym (k .after ∙ d), sym (k .buffer)))
+
+-- and of an update
+updated : (s : Sent) (copy : List ℕ) → s .offset ≡ pos 0 → Update s copy (answerBy copy s) (updatedBy copy s)
+unfolding Update
+updated s copy z = let k = updates.zero-as s copy z in (sym (k .answer), sym (k .after))
 
 -- what was sent back
 abbrev events₁ : List Event
@@ -51,13 +60,13 @@ events = events₄ ▸ acceptance file₆ (counts4 0 1 0 174) (bufferAfter regis
 pub seven-files : Ours 3 register₆ events
 seven-files =
     let s₀ : Ours 3 (empty 3) [] = start (omega arith) in
-    let s₁ : Ours 3 register₁ events₁ = accepted s₀ file₁ _ _ _ (outcome file₁ (empty 3) (counts4 0 1 1 304) register₁ (seven .answer₁) (seven .after₁)) refl in
-    let s₂ : Ours 3 register₂ events₂ = accepted s₁ file₂ _ _ _ (outcome file₂ register₁ (counts4 0 1 0 174) register₂ (seven .answer₂) (seven .after₂)) refl in
-    let s₃ : Ours 3 register₂ events₂ = refused s₂ file₃ _ _ _ (outcome file₃ register₂ (counts4 30 0 0 0) register₂ (seven .answer₃) (seven .after₃)) (λ z. omega arith) in
-    let s₄ : Ours 3 register₄ events₄ = accepted s₃ file₄ _ _ _ (outcome file₄ register₂ (counts4 0 2 0 174) register₄ (seven .answer₄) (seven .after₄)) refl in
-    let s₅ : Ours 3 register₄ events₄ = refused s₄ file₅ _ _ _ (outcome file₅ register₄ (counts4 35 0 0 0) register₄ (seven .answer₅) (seven .after₅)) (λ z. omega arith) in
-    let s₆ : Ours 3 register₆ events = accepted s₅ file₆ _ _ _ (outcome file₆ register₄ (counts4 0 1 0 174) register₆ (seven .answer₆) (seven .after₆)) refl in
-    refused s₆ file₇ _ _ _ (outcome file₇ register₆ (counts4 33 0 0 0) register₆ (seven .answer₇) (seven .after₇)) (λ z. omega arith)
+    let s₁ : Ours 3 register₁ events₁ = accepted s₀ file₁ _ _ _ (outcome file₁ (empty 3) (counts4 0 1 1 304) register₁ refl (seven .answer₁) (seven .after₁)) refl in
+    let s₂ : Ours 3 register₂ events₂ = accepted s₁ file₂ _ _ _ (outcome file₂ register₁ (counts4 0 1 0 174) register₂ refl (seven .answer₂) (seven .after₂)) refl in
+    let s₃ : Ours 3 register₂ events₂ = refused s₂ file₃ _ _ _ (outcome file₃ register₂ (counts4 30 0 0 0) register₂ refl (seven .answer₃) (seven .after₃)) (λ z. omega arith) in
+    let s₄ : Ours 3 register₄ events₄ = accepted s₃ file₄ _ _ _ (outcome file₄ register₂ (counts4 0 2 0 174) register₄ refl (seven .answer₄) (seven .after₄)) refl in
+    let s₅ : Ours 3 register₄ events₄ = refused s₄ file₅ _ _ _ (outcome file₅ register₄ (counts4 35 0 0 0) register₄ refl (seven .answer₅) (seven .after₅)) (λ z. omega arith) in
+    let s₆ : Ours 3 register₆ events = accepted s₅ file₆ _ _ _ (outcome file₆ register₄ (counts4 0 1 0 174) register₆ refl (seven .answer₆) (seven .after₆)) refl in
+    refused s₆ file₇ _ _ _ (outcome file₇ register₆ (counts4 33 0 0 0) register₆ refl (seven .answer₇) (seven .after₇)) (λ z. omega arith)
 
 -- of it the first provider's, as he applies it late
 his-are : entries (his files.one events) ≡ [] ▸ apply (sentWith file₁ hgc₁) ▸ apply (sentWith file₄ hgc₄) ▸ apply (sentWith file₆ hgc₆)
@@ -71,18 +80,18 @@ theirs-are = rw (seven .hgc-is₂)
 
 -- his side, as it was computed
 pub his-copy : Replay 3 (entries (his files.one events)) his₆ (counts3 0 1 0 ∷ counts3 0 2 0 ∷ counts3 0 1 1 ∷ [])
-unfolding Update copyBy answersBy
+unfolding copyBy answersBy
 his-copy =
     let l : Late = computed .1 .1 .0 in
     rw (his-are, ← l .copy-is, ← l .answers-are)
-    (applied (applied (applied start (sentWith file₁ hgc₁) _ _ (refl, refl)) (sentWith file₄ hgc₄) _ _ (refl, refl)) (sentWith file₆ hgc₆) _ _ (refl, refl))
+    (applied (applied (applied start (sentWith file₁ hgc₁) _ _ (updated (sentWith file₁ hgc₁) _ refl)) (sentWith file₄ hgc₄) _ _ (updated (sentWith file₄ hgc₄) _ refl)) (sentWith file₆ hgc₆) _ _ (updated (sentWith file₆ hgc₆) _ refl))
 
 -- and the other's
 pub their-copy : Replay 3 (entries (his files.another events)) (theirs ++ files.free ++ files.free) (counts3 0 1 0 ∷ [])
-unfolding Update copyBy answersBy
+unfolding copyBy answersBy
 their-copy =
     let l : Late = computed .1 .1 .0 in
-    rw (theirs-are, ← l .their-copy, ← l .their-answers) (applied start (sentWith file₂ hgc₂) _ _ (refl, refl))
+    rw (theirs-are, ← l .their-copy, ← l .their-answers) (applied start (sentWith file₂ hgc₂) _ _ (updated (sentWith file₂ hgc₂) _ refl))
 
 -- it is what demand 3 says
 pub both-sides : his₆ ≡ flat (pad slotLength 3 (own files.one (records register₆)))
@@ -91,7 +100,7 @@ both-sides = copy-is seven-files files.one his-copy
 -- ---- a full register, and a sweep
 
 facts : Emptied
-facts = computed .1 .1 .1
+facts = computed .1 .1 .1 .0
 
 -- an outcome of a sweep, told by what was computed
 swept-outcome : (t register : List ℕ) (r : Swept) (b : List ℕ) → sweepAnswer t register ≡ r → registerSwept t register ≡ b → Sweep t register r b
@@ -115,12 +124,12 @@ told = toldSwept ▸ acceptance file₁₀ (counts4 0 1 0 174) (bufferAfter empt
 pub full-and-swept : Ours 2 refilled told
 full-and-swept =
     let s₀ : Ours 2 (empty 2) [] = start (omega arith) in
-    let s₁ : Ours 2 begun told₈ = accepted s₀ file₈ _ _ _ (outcome file₈ (empty 2) (counts4 0 1 0 174) begun (facts .answer₈) (facts .after₈)) refl in
-    let s₂ : Ours 2 packed told₂ = accepted s₁ file₂ _ _ _ (outcome file₂ begun (counts4 0 1 0 174) packed (facts .answer₂) (facts .after₂)) refl in
-    let s₃ : Ours 2 packed told₂ = refused s₂ file₉ _ _ _ (outcome file₉ packed (counts4 33 0 0 0) packed (facts .answer₉) (facts .after₉)) (λ z. omega arith) in
+    let s₁ : Ours 2 begun told₈ = accepted s₀ file₈ _ _ _ (outcome file₈ (empty 2) (counts4 0 1 0 174) begun refl (facts .answer₈) (facts .after₈)) refl in
+    let s₂ : Ours 2 packed told₂ = accepted s₁ file₂ _ _ _ (outcome file₂ begun (counts4 0 1 0 174) packed refl (facts .answer₂) (facts .after₂)) refl in
+    let s₃ : Ours 2 packed told₂ = refused s₂ file₉ _ _ _ (outcome file₉ packed (counts4 33 0 0 0) packed refl (facts .answer₉) (facts .after₉)) (λ z. omega arith) in
     let s₄ : Ours 2 emptied (told₂ ▸ sweeping files.reception packed (went 0 1) emptied) = swept s₃ files.reception _ _ (swept-outcome files.reception packed (went 0 1) emptied (facts .swept-answer) (facts .swept-register)) in
     let s₅ : Ours 2 emptied toldSwept = swept s₄ files.unreal _ _ (swept-outcome files.unreal emptied (went 22 0) emptied (facts .unreal-answer) (facts .unreal-register)) in
-    accepted s₅ file₁₀ _ _ _ (outcome file₁₀ emptied (counts4 0 1 0 174) refilled (facts .answer₁₀) (facts .after₁₀)) refl
+    accepted s₅ file₁₀ _ _ _ (outcome file₁₀ emptied (counts4 0 1 0 174) refilled refl (facts .answer₁₀) (facts .after₁₀)) refl
 
 -- of it what is his, and what is the other's, who sent nothing after the sweep
 his-told : entries (his files.one told) ≡ [] ▸ apply (sentWith file₈ hgc₈) ▸ sweep files.reception ▸ sweep files.unreal ▸ apply (sentWith file₁₀ hgc₁₀)
@@ -133,16 +142,16 @@ their-told = rw (facts .hgc-is₂)
 
 -- his side and the other's, as they were computed
 pub his-swept : Replay 2 (entries (his files.one told)) (endedBy (bytes "10") ++ files.free) (counts3 0 1 0 ∷ of-sweep (went 22 0) ∷ of-sweep (went 0 1) ∷ counts3 0 1 0 ∷ [])
-unfolding Update Sweep copyBy answersBy
+unfolding Sweep copyBy answersBy
 his-swept =
     rw (his-told, ← facts .his-copy, ← facts .his-answers)
-    (applied (swept (swept (applied start (sentWith file₈ hgc₈) _ _ (refl, refl)) files.reception _ _ (refl, refl)) files.unreal _ _ (refl, refl)) (sentWith file₁₀ hgc₁₀) _ _ (refl, refl))
+    (applied (swept (swept (applied start (sentWith file₈ hgc₈) _ _ (updated (sentWith file₈ hgc₈) _ refl)) files.reception _ _ (refl, refl)) files.unreal _ _ (refl, refl)) (sentWith file₁₀ hgc₁₀) _ _ (updated (sentWith file₁₀ hgc₁₀) _ refl))
 
 pub their-swept : Replay 2 (entries (his files.another told)) emptied (of-sweep (went 22 0) ∷ of-sweep (went 0 0) ∷ counts3 0 1 0 ∷ [])
-unfolding Update Sweep copyBy answersBy
+unfolding Sweep copyBy answersBy
 their-swept =
     rw (their-told, ← facts .their-copy, ← facts .their-answers)
-    (swept (swept (applied start (sentWith file₂ hgc₂) _ _ (refl, refl)) files.reception _ _ (refl, refl)) files.unreal _ _ (refl, refl))
+    (swept (swept (applied start (sentWith file₂ hgc₂) _ _ (updated (sentWith file₂ hgc₂) _ refl)) files.reception _ _ (refl, refl)) files.unreal _ _ (refl, refl))
 
 -- they are what demand 3 says
 pub his-part : endedBy (bytes "10") ++ files.free ≡ flat (pad slotLength 2 (own files.one (records refilled)))

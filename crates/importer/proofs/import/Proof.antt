@@ -45,8 +45,7 @@ import-lines-requires c κs =
     let n = c .before .before .before .before .lines-in .ensures in
     let form = c .before .before .before .before .before .before .before .form-stop .ensures in
     let left = c .before .before .before .before .before .before .if1 .left in
-    let m = lines-in-most _ _ _ _ _ _ form left _ n in
-    (
+    let m = lines-in-most _ _ _ _ _ _ form left _ n in (
       formed-ahead _ _ _ _ _ _ _ (c .before .before .before .before .before .before .before .before .before .has-local .ensures) _ form left _ (c .before .before .before .before .before .ahead .ensures),
       (length-take-le _ _ (omega (arith, m)) ∙ n, (length-take-le _ _ (omega (arith, m)) ∙ n, no-places _ m)),
     )

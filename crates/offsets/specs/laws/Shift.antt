@@ -242,6 +242,18 @@ module _ (o : ℤ) (t : List ℕ) where
   unfolding utcHolds
   utc-asked h = sym (rw h)
 
+-- a time whose seconds are so many minutes ahead is the local time
+pub shown-is : (o : ℤ) (t t′ : List ℕ) → offsetHolds o ≡ true → realTime t ≡ true → realTime t′ ≡ true → seconds t′ + behindUtc * 60 ≡ seconds t + aheadOf o * 60
+    → (receptionHolds o t ≡ true) × (local o t ≡ t′)
+unfolding local
+shown-is o t t′ i r r′ e =
+    let p : ℕ = aheadOf o * 60 in
+    let n : seconds t + p - behindUtc * 60 ≡ seconds t′ = omega arith in
+    let l : localTime o t ≡ Real (seconds t′) =
+    ap (λ (z : ℤ). localTime z t) (sym (offset-ahead o i)) ∙ local-moved (aheadOf o) t
+    ∙ moved-is p (behindUtc * 60) t r (omega arith) (omega (arith, n, seconds-most t′ r′)) ∙ ap Real n
+    in (sym (received-in o t i) ∙ ap isReal l, ap textAt l ∙ at-its-seconds t′ r′)
+
 -- ---- no offset moves nothing
 
 module _ (t : List ℕ) where

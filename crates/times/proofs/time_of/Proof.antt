@@ -13,7 +13,7 @@ seconds-requires c κs =
     let t = c .before .before .before .before .before .args .t .now in
     let x = c .before .before .before .moment in
     let h : realTime t ≡ true =
-        sym (real-asked t (x .result) (x .ensures) (c .before .before .is-digits .result) (c .before .is-moment .result) (c .before .before .is-digits .ensures) (c .before .is-moment .ensures)) ∙ c .if1 .taken
+    sym (real-asked t (x .result) (x .ensures) (c .before .before .is-digits .result) (c .before .is-moment .result) (c .before .before .is-digits .ensures) (c .before .is-moment .ensures)) ∙ c .if1 .taken
     in bounds-asked t (x .result) (x .ensures) h
 
 returns : tie.Need-returns

@@ -71,13 +71,13 @@ almanac =
     ∷ []
 
 -- the days from 00010101 to a day, with no sum over the years
-unfoldable daysBy : ℕ → ℕ → ℕ → ℕ
+unfoldable pub daysBy : ℕ → ℕ → ℕ → ℕ
 daysBy y m d = (y - 1) * 365 + (y - 1) / 4 + (y - 1) / 400 - (y - 1) / 100 + (sum (daysIn y) (m - 1) + (d - 1))
 
-secondsBy : List ℕ → ℕ
+unfoldable pub secondsBy : List ℕ → ℕ
 secondsBy t = ((daysBy (year t) (month t) (day t) * 24 + hour t) * 60 + minute t) * 60 + second t
 
-seconds-by : (t : List ℕ) → seconds t ≡ secondsBy t
+pub seconds-by : (t : List ℕ) → seconds t ≡ secondsBy t
 unfolding seconds secs days daysBy secondsBy
 seconds-by t =
     let n : ℕ = year t - 1 in
