@@ -192,12 +192,17 @@ fn beside_no_offset() {
     );
 }
 
-/// An accepted list, applied to the copy before it with another offset: refused, or another copy where a line was taken.
+/// An accepted list, applied to the copy before it with another offset: refused, or another copy where a line was taken. Applied
+/// again with its own it makes the copy right.
 fn by_another(engine: &Engine, copy: &[u8], import: &Import, outcome: &Outcome, offset: i64) -> &'static str {
     let (mut right, mut wrong) = (copy.to_vec(), copy.to_vec());
     let applied = (engine.update)(import.mode, import.offset, &mut right, &import.hgv, &outcome.hgc);
     assert!(applied.number == 0 && right == copy_expected(&outcome.register, import.sender()), "{}", engine.name);
-    match (engine.update)(import.mode, offset, &mut wrong, &import.hgv, &outcome.hgc).number {
+    let number = (engine.update)(import.mode, offset, &mut wrong, &import.hgv, &outcome.hgc).number;
+    let mut again = wrong.clone();
+    assert_eq!((engine.update)(import.mode, import.offset, &mut again, &import.hgv, &outcome.hgc), applied);
+    assert!(again == right, "{}", engine.name);
+    match number {
         0 if outcome.answer.taken == 0 => {
             assert!(wrong == right, "{}: nothing is stamped", engine.name);
             "the same copy"
