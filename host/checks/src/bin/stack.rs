@@ -9,7 +9,7 @@ use graftspindle_checks::plain::register::SLOT;
 use graftspindle_checks::sample;
 
 const LINES: usize = 8192;
-const CALLS: [&str; 7] = ["import", "lookup", "read back", "update", "sweep", "write", "seconds"];
+const CALLS: [&str; 6] = ["import", "lookup", "read back", "update", "sweep", "write"];
 
 /// An hour ahead of UTC, so that times are reckoned with too.
 const OFFSET: i64 = 60;
@@ -49,7 +49,6 @@ fn prepared(call: &str) -> Call {
             let mut ended = sample::slots((0..LINES).map(|i| sample::line_until(i, ENDS[i % 2])));
             Box::new(move || raw::sweep(&mut ended, sample::RECEPTION).removed == taken / 2)
         }
-        "seconds" => Box::new(|| raw::seconds(sample::RECEPTION).number == 0),
         _ => {
             let (accounts, mut out) = (sample::accounts(LINES), vec![0; hgv.len()]);
             Box::new(move || raw::write(&sample::list(&rows, &accounts), &mut out).number == 0)
