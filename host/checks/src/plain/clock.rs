@@ -58,8 +58,8 @@ pub fn local(utc: &[u8], offset: i64) -> Option<Vec<u8>> {
     moved(utc, offset)
 }
 
-/// "Ends and stamps are reckoned in UTC." None is the update's 52: "reception is not real", the offset is out of range, or the UTC
-/// year leaves 0001-9999.
+/// "Ends and stamps are reckoned in UTC." None is the update's 52: "reception is not real", the offset is out of range, or the
+/// UTC year leaves 0001-9999.
 pub fn utc(local: &[u8], offset: i64) -> Option<Vec<u8>> {
     if !moves(local, offset) {
         return None;

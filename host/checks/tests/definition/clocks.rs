@@ -1,5 +1,5 @@
-//! "Ends and stamps are reckoned in UTC; the HGC's reception shows local time." The offset may be another from file to file, and the
-//! provider applies each with its own.
+//! "Ends and stamps are reckoned in UTC; the HGC's reception shows local time." The offset may be another from file to file,
+//! and the provider applies each with its own.
 
 use crate::common::*;
 use crate::steps::Step;
@@ -163,8 +163,8 @@ fn ends_between_the_clocks() {
     }
 }
 
-/// What an offset changes of an import of the generator's: nothing but what the HGC shows of the reception, which is so many minutes
-/// away; or it is refused.
+/// What an offset changes of an import of the generator's: nothing but what the HGC shows of the reception, which is so many
+/// minutes away; or it is refused.
 #[test]
 fn beside_no_offset() {
     let mut told = Counts::new();
