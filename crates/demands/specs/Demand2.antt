@@ -22,6 +22,7 @@ use Rattle.slots.specs.Slots.{slotsIn, records, usedIn}
 use Rattle.register.specs.Register.{inOrder}
 use Rattle.slots.specs.Search.{ofActor}
 use Rattle.verdicts.specs.Verdict.{verdictRules, verdictsOf}
+use Rattle.offsets.specs.Offset.{local}
 use Rattle.hgc.specs.Confirmation.{confirmation}
 use Rattle.holdings.specs.Holdings.{others, holdings}
 use Rattle.importer.specs.declared.Imported.{Imported}
@@ -77,7 +78,7 @@ module _ (f : Handed) (register : List ℕ) (r : Imported) (b g : List ℕ) (o :
 
   -- "and the HGC is exact to the byte."
   pub hgc-is : (vs : List ℕ) → Judged vs
-      → (g ≡ confirmation (f .reception) (f .hgv) vs ++ drop (r .length) (f .hgc)) × (r .length ≡ length (confirmation (f .reception) (f .hgv) vs))
+      → (g ≡ confirmation (local (f .offset) (f .reception)) (f .hgv) vs ++ drop (r .length) (f .hgc)) × (r .length ≡ length (confirmation (local (f .offset) (f .reception)) (f .hgv) vs))
   hgc-is vs v = (laws.buffer-is f register r b g o z vs v, laws.length-is f register r b g o z vs v)
 
   -- "Taken and rejected add up to the header's count."

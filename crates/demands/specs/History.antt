@@ -1,5 +1,5 @@
--- The two sides of demand 3, apart. Ours: every sequence of imports, by any providers, in any mode, with any rows, receptions
--- and buffers, accepted and refused, and of sweeps, at any times; what each accepted import sends back, and the time of each sweep.
+-- The two sides of demand 3, apart. Ours: every sequence of imports, by any providers, in any mode, with any rows, receptions,
+-- offsets and buffers, accepted and refused, and of sweeps, at any times; what each accepted import sends back, and the time of each sweep.
 -- His: a replay of what he was told, whenever he does it. Both speak of any outcomes that the contracts of `import`, `update` and
 -- `sweep` admit. Assumes nothing.
 use mathlib.Core.Path.{_≡_}
@@ -39,11 +39,12 @@ pub record Event : Type 0 where
   pub entry : Entry
   pub answer : List ℕ → Answer
 
--- the HGC is the buffer after the import, cut at the length answered; the update is to answer 0, with the import's own counts
+-- what he applies is what was handed over, his offset with it; the HGC is the buffer after the import, cut at the length answered; the
+-- update is to answer 0, with the import's own counts
 unfoldable pub acceptance : Handed → Imported → List ℕ → Event
 acceptance f r g =
     record {
-      entry = apply (sent (f .mode) (f .hgv) (take (r .length) g));
+      entry = apply (sent (f .mode) (f .offset) (f .hgv) (take (r .length) g));
       answer = λ _. of-update (record { number = 0; taken = r .taken; rejected = r .rejected });
     }
 

@@ -19,6 +19,7 @@ use Rattle.lookups.specs.Promises.{ByPan, ByPlate}
 use Rattle.importer.specs.declared.Imported.{Imported}
 use Rattle.importer.specs.Handed.{Handed}
 use Rattle.importer.specs.Promises.{Import}
+use Rattle.offsets.specs.Offset.{utc}
 use Rattle.receipts.specs.Receipt.{listOf, receptionOf, takenBy}
 use Rattle.provider.specs.declared.Counted.{Counted}
 use Rattle.updating.specs.Sent.{Sent}
@@ -56,13 +57,13 @@ module _ (f : Handed) (register : List ℕ) (r : Imported) (b g : List ℕ) (o :
   untouched = laws.untouched f register r b g o z vs v
 
 -- "The provider's copy has the same slots": an update that answers u with the number 0 leaves a copy c in which every record whose PAN a
--- taken line names carries the HGC's list and its reception, and every other record the stamp that it had. That the stamps are those
+-- taken line names carries the HGC's list and its reception in UTC, and every other record the stamp that it had. That the stamps are those
 -- of our records, whatever was imported, is demand 3 itself, which speaks of the slots' bytes.
 module _ (s : Sent) (copy : List ℕ) (u : Counted) (c : List ℕ) (o : Update s copy u c) (z : u .number ≡ 0) where
   abbrev confirmed : List (List ℕ)
   confirmed = map panOf (takenBy (s .hgv) (s .hgc))
 
-  pub update-touched : Each (λ x. mem (panOf x) confirmed ≡ true → Carries (listOf (s .hgc)) (receptionOf (s .hgc)) x) (records c)
+  pub update-touched : Each (λ x. mem (panOf x) confirmed ≡ true → Carries (listOf (s .hgc)) (utc (s .offset) (receptionOf (s .hgc))) x) (records c)
   update-touched = laws.update-touched s copy u c o z
 
   pub update-untouched : Each (λ x. mem (panOf x) confirmed ≡ false → mem x (records copy) ≡ true) (records c)

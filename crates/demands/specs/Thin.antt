@@ -22,6 +22,7 @@ use Rattle.importer.specs.Handed.{Handed}
 use Rattle.importer.specs.Promises.{Import}
 use Rattle.provider.specs.declared.Counted.{Counted}
 use Rattle.updating.specs.Sent.{Sent}
+use Rattle.offsets.specs.Offset.{receptionHolds}
 use Rattle.updating.specs.Promises.{Update}
 use Rattle.demands.specs.Verdicts.{Verdicts}
 use Rattle.demands.specs.laws.Thin as laws
@@ -30,7 +31,7 @@ use Rattle.demands.specs.laws.Thin as laws
 module _ (f : Handed) (register : List ℕ) (r : Imported) (b g : List ℕ) (o : Import f register r b g) where
   -- 21 to 32
   abbrev form : List Rule
-  form = formStops (f .mode) (f .reception) register (f .rows) (f .hgv)
+  form = formStops (f .mode) (receptionHolds (f .offset) (f .reception)) register (f .rows) (f .hgv)
 
   -- the records held for the sender before the file, ended ones too
   abbrev held : ℕ

@@ -31,6 +31,7 @@ use Rattle.verdicts.specs.Verdict.{taken}
 use Rattle.holdings.specs.Holdings.{holdings}
 use Rattle.hgc.specs.Confirmation.{confirmation}
 use Rattle.stops.specs.Stops.{formStop}
+use Rattle.offsets.specs.Offset.{local, receptionHolds}
 use Rattle.receipts.specs.Receipt.{takenBy, receiptHolds}
 use Rattle.importer.specs.Handed.{Handed}
 use Rattle.provider.specs.declared.Counted.{Counted}
@@ -80,10 +81,10 @@ followingBy vs f register = holdings (f .mode) (sender (f .hgv)) (slotOf (stamp 
 
 -- the import was accepted: none of 21 to 32 is given, nor 33; it left the register b, and sent back the HGC g
 pub record AcceptedUnder (limit : List ℕ → Bool) (f : Handed) (register b g : List ℕ) : Type 0 where
-  pub form : formStop (f .mode) (f .reception) register (f .rows) (f .hgv) ≡ 0
+  pub form : formStop (f .mode) (receptionHolds (f .offset) (f .reception)) register (f .rows) (f .hgv) ≡ 0
   pub room : length (followingBy (judgedUnder limit f register) f register) ≤ slotsIn register
   pub after : b ≡ flat (pad slotLength (slotsIn register) (followingBy (judgedUnder limit f register) f register))
-  pub sent-back : g ≡ confirmation (f .reception) (f .hgv) (judgedUnder limit f register)
+  pub sent-back : g ≡ confirmation (local (f .offset) (f .reception)) (f .hgv) (judgedUnder limit f register)
 
 -- ---- every sequence of them
 
@@ -93,7 +94,7 @@ ownCounts vs = record { number = 0; taken = tally good vs; rejected = tally bad 
 
 -- he has to apply what was sent, and his update is to answer these
 unfoldable pub acceptanceBy : List ℕ → Handed → List ℕ → Event
-acceptanceBy vs f g = record { entry = apply (sent (f .mode) (f .hgv) g); answer = λ _. of-update (ownCounts vs) }
+acceptanceBy vs f g = record { entry = apply (sent (f .mode) (f .offset) (f .hgv) g); answer = λ _. of-update (ownCounts vs) }
 
 -- our side: a refused import leaves all as it was, and so does a sweep of which nobody is told, so the others are enough
 pub data OursUnder (n : ℕ) : List ℕ → List Event → Type 0 where

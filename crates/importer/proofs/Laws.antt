@@ -5,6 +5,7 @@ use mathlib.Core.List.{List, _++_}
 use Prim.Native.Nat.{ℕ, _+_, _-_, _*_, _≤_}
 use native.Mathlib.Omega.{arith}
 use lib.Dec.{ltb}
+use lib.IntN.{ℤ}
 use lib.ListN.{length, drop}
 use Rattle.theory.specs.First.{first}
 use Rattle.theory.specs.Each.{Each}
@@ -35,11 +36,15 @@ use Rattle.thinness.specs.Thin.{thin}
 use Rattle.applying.specs.Fit.{Fit, Sought}
 use Rattle.applying.specs.laws.Sought.{NoPlaces, sought}
 use Rattle.hgv.specs.laws.Layout.{is-width, lines-most}
+use Rattle.times.specs.Seconds.{isReal}
+use Rattle.offsets.specs.Offset.{offsetHolds, localTime, receptionHolds}
+use Rattle.offsets.specs.Ahead.{aheadMost, aheadOf, offsetOf}
+use Rattle.offsets.specs.laws.Shift.{offset-ahead, offset-most, received}
 use Rattle.stops.specs.Stops.{formStop}
-use Rattle.stops.specs.laws.Clear.{clear}
+use Rattle.stops.specs.laws.Clear.{Clear, clear}
 use Rattle.importer.specs.Handed.{Handed}
-use Rattle.importer.specs.Import.{judged, following, shown, confirmed, judgedStops, success, registerWritten, hgcWritten}
-use Rattle.importer.specs.laws.Numbers.{Formed, Passed, judged-passed}
+use Rattle.importer.specs.Import.{judged, following, shown, confirmed, judgedStops, timed, success, registerWritten, hgcWritten}
+use Rattle.importer.specs.laws.Numbers.{Formed, formed-received, Passed, judged-passed}
 use Rattle.importer.specs.laws.Accepted.{Accepted, verdict-each, lines-there, verdicts-most, lines-are, lines-storable, lines-made, lines-apart, lines-free, following-used, confirmed-length}
 
 -- vs are the verdicts, and r of them reject their line
@@ -75,6 +80,12 @@ module _ (f : Handed) (register vs : List ℕ) (r : ℕ)
   pub buffer-is : (w : ℕ) → w ≡ widthOf (f .hgv) → (m : ℕ) → m ≡ confirmationLength w r → ltb (length (f .hgc)) m ≡ ltb (length (f .hgc)) (length (confirmed f register))
   buffer-is w ew m em = rw (em, ew, ← confirmed-length f register c vs v r e)
 
+-- ---- what is confirmed
+
+-- the local time can be written, where the offset is so many minutes ahead
+pub local-fits : (ahead : ℕ) (t : List ℕ) → receptionHolds (offsetOf ahead) t ≡ true → (ahead ≤ aheadMost) × (isReal (localTime (offsetOf ahead) t) ≡ true)
+local-fits ahead t h = let r = received (offsetOf ahead) t h in (offset-most ahead (r .offset), r .shown)
+
 -- ---- what is carried out
 
 module _ (f : Handed) (register vs : List ℕ) (t r : ℕ) (found : List ℕ) (a : Accepted f register vs t r found) where
@@ -100,7 +111,7 @@ module _ (f : Handed) (register vs : List ℕ) (t r : ℕ) (found : List ℕ) (a
         (
           rw es (sequence-length (sender (f .hgv)) (listSequence (f .hgv)) (header-list (f .hgv) (c .headed))),
           (
-            real-length (f .reception) (c .received),
+            real-length (f .reception) (formed-received f register c),
             (
               rw (lines-taken, es) (lines-storable f register c),
               (
@@ -123,9 +134,9 @@ module _ (f : Handed) (register vs : List ℕ) (t r : ℕ) (found : List ℕ) (a
     unfolding registerWritten following
     applied b k = k .bytes ∙ rw (lines-taken, ef, es)
 
-  pub write-fits : (length (shown f) ≡ 14) × ((lengthHolds (f .hgv) ≡ true) × ((length vs ≡ linesIn (f .hgv)) × ((t ≡ tally good vs) × ((r ≡ tally bad vs) × (confirmationLength (widthOf (f .hgv)) r ≤ length (f .hgc))))))
-  write-fits = (
-    real-length (shown f) (c .received),
+  pub confirm-fits : (timed f ≡ true) × ((lengthHolds (f .hgv) ≡ true) × ((length vs ≡ linesIn (f .hgv)) × ((t ≡ tally good vs) × ((r ≡ tally bad vs) × (confirmationLength (widthOf (f .hgv)) r ≤ length (f .hgc))))))
+  confirm-fits = (
+    c .received,
     (
       c .sized,
       (
@@ -174,6 +185,24 @@ module _ (f : Handed) (register vs : List ℕ) (c : Formed f register) (v : vs �
         let passed : Passed f register = judged-passed f register (sym k ∙ y) in
         record { clear = c; verdicts = v; taken-are = e; rejected-are = rest-rejected vs t e; slots = passed .slots; buffer = passed .buffer; sought = sought (f .mode) (records register) (widthOf (f .hgv)) (body (f .hgv)) vs found₀ found z (as-many (length found₀) m) g }
 
+-- ---- from what is handed over to the lines
+
+-- b says whether 22 is not given, and n is the form's stop: none
+module _ (mode : ℕ) (o : ℤ) (t register rows h : List ℕ) (b : Bool) (eb : b ≡ receptionHolds o t) (n : ℕ) (en : n ≡ formStop mode b register rows h) (z : n ≡ 0) where
+  formed : Clear mode (receptionHolds o t) register rows h
+  formed = clear mode (receptionHolds o t) register rows h (sym (rw eb at en) ∙ z)
+
+  pub in-range : offsetHolds o ≡ true
+  in-range = received o t (formed .received) .offset
+
+  -- the offset is so many minutes ahead, and is found again
+  module _ (a : ℕ) (ea : a ≡ aheadOf o) where
+    pub offset-is : offsetOf a ≡ o
+    offset-is = rw ea (offset-ahead o in-range)
+
+    pub formed-ahead : Clear mode (receptionHolds (offsetOf a) t) register rows h
+    formed-ahead = rw offset-is formed
+
 -- n lines have room in a block for the most that there may be
-pub lines-in-most : (mode : ℕ) (reception register rows h : List ℕ) (s : ℕ) → s ≡ formStop mode reception register rows h → s ≡ 0 → (n : ℕ) → n ≡ linesIn h → n ≤ linesMost
-lines-in-most mode reception register rows h s e z n k = rw k (lines-most h (clear mode reception register rows h (sym e ∙ z) .sized))
+pub lines-in-most : (mode : ℕ) (timed : Bool) (register rows h : List ℕ) (s : ℕ) → s ≡ formStop mode timed register rows h → s ≡ 0 → (n : ℕ) → n ≡ linesIn h → n ≤ linesMost
+lines-in-most mode timed register rows h s e z n k = rw k (lines-most h (clear mode timed register rows h (sym e ∙ z) .sized))

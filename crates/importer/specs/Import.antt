@@ -1,6 +1,7 @@
 -- The import: its stops, its answer, the register after it and the HGC's buffer after it, for every mode and every text
 -- of every length. f is what is handed over. Assumes nothing.
 use Prim.Native.Nat.{ℕ}
+use mathlib.Core.Bool.{Bool}
 use mathlib.Core.List.{List, [], _∷_, _++_}
 use lib.Dec.{ltb}
 use lib.ListN.{length, drop}
@@ -19,6 +20,7 @@ use Rattle.verdicts.specs.Verdict.{fileVerdicts, taken}
 use Rattle.hgc.specs.Confirmation.{confirmation}
 use Rattle.thinness.specs.Thin.{thin}
 use Rattle.holdings.specs.Holdings.{holdings}
+use Rattle.offsets.specs.Offset.{local, receptionHolds}
 use Rattle.stops.specs.Stops.{formStops}
 use Rattle.importer.specs.declared.Imported.{Imported}
 use Rattle.importer.specs.Handed.{Handed}
@@ -27,7 +29,7 @@ use Rattle.importer.specs.Handed.{Handed}
 unfoldable pub judged : List ℕ → List ℕ → List ℕ → List ℕ
 judged register rows h = fileVerdicts rows (records register) h
 
--- what each taken line's slot is stamped with: the file's list, and when it was received
+-- what each taken line's slot is stamped with: the file's list, and when it was received, in UTC
 abbrev pub fileStamp : Handed → List ℕ
 fileStamp f = stamp (listSequence (f .hgv)) (f .reception)
 
@@ -36,9 +38,9 @@ unfoldable pub following : Handed → List ℕ → List (List ℕ)
 following f register =
     holdings (f .mode) (sender (f .hgv)) (slotOf (fileStamp f)) (records register) (taken (judged register (f .rows) (f .hgv)) (f .hgv))
 
--- when the file was received, as its sender is shown it
+-- when the file was received, as its sender is shown it: in his local time
 abbrev pub shown : Handed → List ℕ
-shown f = f .reception
+shown f = local (f .offset) (f .reception)
 
 -- the confirmation that answers the file
 unfoldable pub confirmed : Handed → List ℕ → List ℕ
@@ -52,9 +54,13 @@ judgedStops f register =
     ∷ (34 if ltb (length (f .hgc)) (length (confirmed f register)))
     ∷ []
 
+-- 22 is given where this does not hold
+abbrev pub timed : Handed → Bool
+timed f = receptionHolds (f .offset) (f .reception)
+
 -- all stops, in their order
 unfoldable pub stops : Handed → List ℕ → List Rule
-stops f register = formStops (f .mode) (f .reception) register (f .rows) (f .hgv) ++ judgedStops f register
+stops f register = formStops (f .mode) (timed f) register (f .rows) (f .hgv) ++ judgedStops f register
 
 -- the number answered: the first that holds, 0 for success
 unfoldable pub importNumber : Handed → List ℕ → ℕ

@@ -1,11 +1,17 @@
 // The import of an HGV: everything is checked before the first byte is written.
 ghost use mathlib.Core.Path.{_≡_};
+ghost use mathlib.Core.Bool.{true};
+ghost use Prim.Native.Nat.{_≤_};
 ghost use lib.ListN.{length};
 ghost use Rattle.theory.specs.First.{first};
 ghost use Rattle.theory.specs.Pick.{good, bad};
 ghost use Rattle.theory.specs.Tally.{tally};
+ghost use Rattle.offsets.specs.Offset.{local, receptionHolds};
+ghost use Rattle.offsets.specs.Ahead.{offsetOf};
 ghost use Rattle.stops.specs.laws.Clear.{Clear};
-ghost use Rattle.hgv.specs.Layout.{widthOf, linesIn, body};
+ghost use Rattle.hgv.specs.Layout.{widthOf, linesIn, lengthHolds, body};
+ghost use Rattle.hgc.specs.Confirmation.{confirmationLength};
+ghost use Rattle.hgc.specs.Promises.{Write};
 ghost use Rattle.slots.specs.Slots.{records};
 ghost use Rattle.holdings.specs.Places.{placesAfter};
 ghost use Rattle.importer.specs.Handed.{handed};
@@ -43,6 +49,7 @@ fn refused(number: u64) -> Imported
 fn judged_stop(
     mode: u64,
     reception: &[u8],
+    ahead: u64,
     register: &[u8],
     rows: &[u8],
     hgv: &[u8],
@@ -51,12 +58,12 @@ fn judged_stop(
     counts: Counts,
     found: &mut [u16],
 ) -> u64
-    requires clear { ⌜ Clear mode (now reception) (now register) (now rows) (now hgv) ⌝ }
+    requires clear { ⌜ Clear mode (receptionHolds (offsetOf ahead) (now reception)) (now register) (now rows) (now hgv) ⌝ }
     requires verdict { ⌜ now verdicts ≡ judged (now register) (now rows) (now hgv) ⌝ }
     requires good { ⌜ counts .taken ≡ tally good (now verdicts) ⌝ }
     requires bad { ⌜ counts .rejected ≡ tally bad (now verdicts) ⌝ }
     requires many { ⌜ length (now found) ≡ length (now verdicts) ⌝ }
-    ensures stopped { λ r. ⌜ r ≡ first (judgedStops (handed mode (now (reception .entry)) (now (rows .entry)) (now (hgv .entry)) (now (hgc .entry))) (now (register .entry))) ⌝ }
+    ensures stopped { λ r. ⌜ r ≡ first (judgedStops (handed mode (now (reception .entry)) (offsetOf ahead) (now (rows .entry)) (now (hgv .entry)) (now (hgc .entry))) (now (register .entry))) ⌝ }
     ensures placed { λ _. ⌜ now (found .exit) ≡ placesAfter mode (records (now (register .entry))) (widthOf (now (hgv .entry))) (body (now (hgv .entry))) (now (verdicts .entry)) (now (found .entry)) ⌝ }
 {
     let used = holdings::used_after(
@@ -75,10 +82,33 @@ fn judged_stop(
     rules::first(thin, 35, s33)
 }
 
+// The confirmation written, with the reception in local time: the offset is `ahead` minutes ahead of the least one.
+fn confirm(
+    hgc: &mut [u8],
+    reception: &[u8],
+    ahead: u64,
+    hgv: &[u8],
+    verdicts: &[u8],
+    counts: Counts,
+)
+    requires timed { ⌜ receptionHolds (offsetOf ahead) (now reception) ≡ true ⌝ }
+    requires sized { ⌜ lengthHolds (now hgv) ≡ true ⌝ }
+    requires judged { ⌜ length (now verdicts) ≡ linesIn (now hgv) ⌝ }
+    requires counted { ⌜ counts .taken ≡ tally good (now verdicts) ⌝ }
+    requires answered { ⌜ counts .rejected ≡ tally bad (now verdicts) ⌝ }
+    requires room { ⌜ confirmationLength (widthOf (now hgv)) (counts .rejected) ≤ length (now hgc) ⌝ }
+    ensures { λ _. ⌜ Write (now (hgc .entry)) (local (offsetOf ahead) (now (reception .entry))) (now (hgv .entry)) (now (verdicts .entry)) (counts .taken) (counts .rejected) (now (hgc .exit)) ⌝ }
+{
+    let mut shown = [0u8; sizes::TIME];
+    offsets::write_local(&mut shown, reception, ahead);
+    hgc::write(hgc, &shown, hgv, verdicts, counts.taken, counts.rejected);
+}
+
 // The taken lines applied and the confirmation written: nothing can stop it any more.
 fn carry_out(
     mode: u64,
     reception: &[u8],
+    ahead: u64,
     register: &mut [u8],
     rows: &[u8],
     hgv: &[u8],
@@ -87,10 +117,10 @@ fn carry_out(
     counts: Counts,
     found: &[u16],
 ) -> Imported
-    requires { ⌜ Accepted (handed mode (now reception) (now rows) (now hgv) (now hgc)) (now register) (now verdicts) (counts .taken) (counts .rejected) (now found) ⌝ }
-    ensures answered { λ r. ⌜ r ≡ success (handed mode (now (reception .entry)) (now (rows .entry)) (now (hgv .entry)) (now (hgc .entry))) (now (register .entry)) ⌝ }
-    ensures stored { λ _. ⌜ now (register .exit) ≡ registerWritten (handed mode (now (reception .entry)) (now (rows .entry)) (now (hgv .entry)) (now (hgc .entry))) (now (register .entry)) ⌝ }
-    ensures confirmed { λ _. ⌜ now (hgc .exit) ≡ hgcWritten (handed mode (now (reception .entry)) (now (rows .entry)) (now (hgv .entry)) (now (hgc .entry))) (now (register .entry)) ⌝ }
+    requires { ⌜ Accepted (handed mode (now reception) (offsetOf ahead) (now rows) (now hgv) (now hgc)) (now register) (now verdicts) (counts .taken) (counts .rejected) (now found) ⌝ }
+    ensures answered { λ r. ⌜ r ≡ success (handed mode (now (reception .entry)) (offsetOf ahead) (now (rows .entry)) (now (hgv .entry)) (now (hgc .entry))) (now (register .entry)) ⌝ }
+    ensures stored { λ _. ⌜ now (register .exit) ≡ registerWritten (handed mode (now (reception .entry)) (offsetOf ahead) (now (rows .entry)) (now (hgv .entry)) (now (hgc .entry))) (now (register .entry)) ⌝ }
+    ensures confirmed { λ _. ⌜ now (hgc .exit) ≡ hgcWritten (handed mode (now (reception .entry)) (offsetOf ahead) (now (rows .entry)) (now (hgv .entry)) (now (hgc .entry))) (now (register .entry)) ⌝ }
 {
     applying::apply(
         mode,
@@ -103,7 +133,7 @@ fn carry_out(
         verdicts,
         found,
     );
-    hgc::write(hgc, reception, hgv, verdicts, counts.taken, counts.rejected);
+    confirm(hgc, reception, ahead, hgv, verdicts, counts);
     let length = hgc::length_for(hgv::width(hgv), counts.rejected as usize) as u64;
     Imported {
         number: 0,
@@ -117,6 +147,7 @@ fn carry_out(
 fn import_judged(
     mode: u64,
     reception: &[u8],
+    ahead: u64,
     register: &mut [u8],
     rows: &[u8],
     hgv: &[u8],
@@ -124,11 +155,11 @@ fn import_judged(
     verdicts: &[u8],
     found: &mut [u16],
 ) -> Imported
-    requires clear { ⌜ Clear mode (now reception) (now register) (now rows) (now hgv) ⌝ }
+    requires clear { ⌜ Clear mode (receptionHolds (offsetOf ahead) (now reception)) (now register) (now rows) (now hgv) ⌝ }
     requires verdict { ⌜ now verdicts ≡ judged (now register) (now rows) (now hgv) ⌝ }
     requires many { ⌜ length (now found) ≡ linesIn (now hgv) ⌝ }
     requires none { ⌜ NoPlaces (now found) ⌝ }
-    ensures { λ r. ⌜ Import (handed mode (now (reception .entry)) (now (rows .entry)) (now (hgv .entry)) (now (hgc .entry))) (now (register .entry)) r (now (register .exit)) (now (hgc .exit)) ⌝ }
+    ensures { λ r. ⌜ Import (handed mode (now (reception .entry)) (offsetOf ahead) (now (rows .entry)) (now (hgv .entry)) (now (hgc .entry))) (now (register .entry)) r (now (register .exit)) (now (hgc .exit)) ⌝ }
 {
     let taken = taken::count_taken(verdicts);
     let rejected = verdicts.len() as u64 - taken;
@@ -136,6 +167,7 @@ fn import_judged(
     let stop = judged_stop(
         mode,
         reception,
+        ahead,
         register,
         rows,
         hgv,
@@ -150,6 +182,7 @@ fn import_judged(
     carry_out(
         mode,
         reception,
+        ahead,
         register,
         rows,
         hgv,
@@ -164,6 +197,7 @@ fn import_judged(
 fn import_lines(
     mode: u64,
     reception: &[u8],
+    ahead: u64,
     register: &mut [u8],
     rows: &[u8],
     hgv: &[u8],
@@ -171,36 +205,42 @@ fn import_lines(
     verdicts: &mut [u8],
     found: &mut [u16],
 ) -> Imported
-    requires clear { ⌜ Clear mode (now reception) (now register) (now rows) (now hgv) ⌝ }
+    requires clear { ⌜ Clear mode (receptionHolds (offsetOf ahead) (now reception)) (now register) (now rows) (now hgv) ⌝ }
     requires each { ⌜ length (now verdicts) ≡ linesIn (now hgv) ⌝ }
     requires many { ⌜ length (now found) ≡ linesIn (now hgv) ⌝ }
     requires none { ⌜ NoPlaces (now found) ⌝ }
-    ensures { λ r. ⌜ Import (handed mode (now (reception .entry)) (now (rows .entry)) (now (hgv .entry)) (now (hgc .entry))) (now (register .entry)) r (now (register .exit)) (now (hgc .exit)) ⌝ }
+    ensures { λ r. ⌜ Import (handed mode (now (reception .entry)) (offsetOf ahead) (now (rows .entry)) (now (hgv .entry)) (now (hgc .entry))) (now (register .entry)) r (now (register .exit)) (now (hgc .exit)) ⌝ }
 {
     verdicts::judge(hgv, rows, register, verdicts);
-    import_judged(mode, reception, register, rows, hgv, hgc, verdicts, found)
+    import_judged(
+        mode, reception, ahead, register, rows, hgv, hgc, verdicts, found,
+    )
 }
 
 pub fn import(
     mode: u64,
     reception: &[u8],
+    offset: i64,
     register: &mut [u8],
     rows: &[u8],
     hgv: &[u8],
     hgc: &mut [u8],
 ) -> Imported
-    ensures { λ r. ⌜ Import (handed mode (now (reception .entry)) (now (rows .entry)) (now (hgv .entry)) (now (hgc .entry))) (now (register .entry)) r (now (register .exit)) (now (hgc .exit)) ⌝ }
+    ensures { λ r. ⌜ Import (handed mode (now (reception .entry)) offset (now (rows .entry)) (now (hgv .entry)) (now (hgc .entry))) (now (register .entry)) r (now (register .exit)) (now (hgc .exit)) ⌝ }
 {
-    let form = stops::form_stop(mode, reception, register, rows, hgv);
+    let timed = offsets::has_local(reception, offset);
+    let form = stops::form_stop(mode, timed, register, rows, hgv);
     if form != 0 {
         return refused(form);
     }
+    let ahead = offsets::ahead(offset);
     let mut verdicts = [0u8; sizes::LINES_MOST];
     let mut found = [sizes::NO_PLACE; sizes::LINES_MOST];
     let n = hgv::lines_in(hgv);
     import_lines(
         mode,
         reception,
+        ahead,
         register,
         rows,
         hgv,

@@ -24,15 +24,16 @@ pub extern "C" fn graftspindle_read_back(
 #[no_mangle]
 pub extern "C" fn graftspindle_update(
     mode: u64,
+    offset: i64,
     copy: &mut [u8],
     hgv: &[u8],
     hgc: &[u8],
     taken: &mut u64,
     rejected: &mut u64,
 ) -> u64
-    ensures { λ r. ⌜ GraftspindleUpdate (sent mode (now (hgv .entry)) (now (hgc .entry))) (now (copy .entry)) r (now (taken .exit)) (now (rejected .exit)) (now (copy .exit)) ⌝ }
+    ensures { λ r. ⌜ GraftspindleUpdate (sent mode offset (now (hgv .entry)) (now (hgc .entry))) (now (copy .entry)) r (now (taken .exit)) (now (rejected .exit)) (now (copy .exit)) ⌝ }
 {
-    let updated = updating::update(mode, copy, hgv, hgc);
+    let updated = updating::update(mode, offset, copy, hgv, hgc);
     *taken = updated.taken;
     *rejected = updated.rejected;
     updated.number

@@ -13,5 +13,5 @@ abbrev pub IsFullWith220001 : ℕ → List ℕ → Bool → Type 0
 IsFullWith220001 mode h r = r ≡ fullWith220001 mode h
 
 -- the first of the stops 21 to 32
-abbrev pub FormStop : ℕ → List ℕ → List ℕ → List ℕ → List ℕ → ℕ → Type 0
-FormStop mode reception register rows h r = r ≡ formStop mode reception register rows h
+abbrev pub FormStop : ℕ → Bool → List ℕ → List ℕ → List ℕ → ℕ → Type 0
+FormStop mode timed register rows h r = r ≡ formStop mode timed register rows h

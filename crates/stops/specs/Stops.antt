@@ -5,7 +5,6 @@ use mathlib.Core.Bool.{Bool, not, _&&_, _||_}
 use mathlib.Core.List.{List, [], _∷_, _++_}
 use lib.Dec.{eqb}
 use Rattle.theory.specs.First.{Rule, _if_, first}
-use Rattle.times.specs.Time.{realTime}
 use Rattle.issuers.specs.Rows.{rowsHold, known}
 use Rattle.hgv.specs.Layout.{lengthHolds}
 use Rattle.frames.specs.Frames.{footerHolds, framesHold}
@@ -27,11 +26,11 @@ fullWith220001 mode h = isFull mode && incrementalOnly h
 unfoldable pub addressed : List ℕ → List ℕ → Bool
 addressed b h = receiverHolds h && known b (sender h)
 
--- 21 to 24: what is handed over beside the file
-unfoldable pub callStops : ℕ → List ℕ → List ℕ → List ℕ → List Rule
-callStops mode reception register b =
+-- 21 to 24: what is handed over beside the file. timed: the reception is a real time that can be shown as local time
+unfoldable pub callStops : ℕ → Bool → List ℕ → List ℕ → List Rule
+callStops mode timed register b =
     (21 if not (modeHolds mode))
-    ∷ (22 if not (realTime reception))
+    ∷ (22 if not timed)
     ∷ (23 if not (inOrder register))
     ∷ (24 if not (rowsHold b))
     ∷ []
@@ -49,9 +48,9 @@ fileStops mode b h =
     ∷ (32 if not (framesHold h))
     ∷ []
 
-unfoldable pub formStops : ℕ → List ℕ → List ℕ → List ℕ → List ℕ → List Rule
-formStops mode reception register b h = callStops mode reception register b ++ fileStops mode b h
+unfoldable pub formStops : ℕ → Bool → List ℕ → List ℕ → List ℕ → List Rule
+formStops mode timed register b h = callStops mode timed register b ++ fileStops mode b h
 
 -- the first that holds, 0 where none does
-unfoldable pub formStop : ℕ → List ℕ → List ℕ → List ℕ → List ℕ → ℕ
-formStop mode reception register b h = first (formStops mode reception register b h)
+unfoldable pub formStop : ℕ → Bool → List ℕ → List ℕ → List ℕ → ℕ
+formStop mode timed register b h = first (formStops mode timed register b h)

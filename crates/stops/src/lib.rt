@@ -24,12 +24,12 @@ fn is_addressed(rows: &[u8], hgv: &[u8]) -> bool
 }
 
 // The first of the stops 21 to 24 that holds, or 0: from the last to the first, so that the first stands.
-fn call_stop(mode: u64, reception: &[u8], register: &[u8], rows: &[u8]) -> u64
-    ensures { λ r. ⌜ r ≡ first (callStops mode (now (reception .entry)) (now (register .entry)) (now (rows .entry))) ⌝ }
+fn call_stop(mode: u64, timed: bool, register: &[u8], rows: &[u8]) -> u64
+    ensures { λ r. ⌜ r ≡ first (callStops mode timed (now (register .entry)) (now (rows .entry))) ⌝ }
 {
     let s24 = rules::first(!issuers::are_rows(rows), 24, 0);
     let s23 = rules::first(!register::in_order(register), 23, s24);
-    let s22 = rules::first(!times::is_real_time(reception), 22, s23);
+    let s22 = rules::first(!timed, 22, s23);
     rules::first(!is_mode(mode), 21, s22)
 }
 
@@ -47,11 +47,11 @@ fn file_stop(mode: u64, rows: &[u8], hgv: &[u8]) -> u64
     rules::first(!hgv::has_length(hgv), 25, s26)
 }
 
-// The first of the stops 21 to 32 that holds, or 0.
-pub fn form_stop(mode: u64, reception: &[u8], register: &[u8], rows: &[u8], hgv: &[u8]) -> u64
-    ensures { λ r. ⌜ FormStop mode (now (reception .entry)) (now (register .entry)) (now (rows .entry)) (now (hgv .entry)) r ⌝ }
+// The first of the stops 21 to 32 that holds, or 0. `timed` is 22's question, which the caller asks of the clock.
+pub fn form_stop(mode: u64, timed: bool, register: &[u8], rows: &[u8], hgv: &[u8]) -> u64
+    ensures { λ r. ⌜ FormStop mode timed (now (register .entry)) (now (rows .entry)) (now (hgv .entry)) r ⌝ }
 {
-    let stop = call_stop(mode, reception, register, rows);
+    let stop = call_stop(mode, timed, register, rows);
     if stop != 0 {
         return stop;
     }

@@ -1,4 +1,5 @@
 pub mod Time
+pub mod Seconds
 pub mod Order
 pub mod Promises
 pub mod laws

@@ -1,6 +1,6 @@
 pub mod Moment
 pub mod Date
-pub mod Calendar
 pub mod Order
+pub mod Back
 pub mod Almanac
 pub mod Outcomes

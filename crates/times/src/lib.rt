@@ -1,33 +1,20 @@
 // Real times and dates, and which of two comes first. Every public function takes texts of any length.
 ghost use mathlib.Core.Path.{_≡_};
-ghost use Prim.Native.Nat.{_+_, _≤_};
+ghost use Prim.Native.Nat.{_+_, _<_, _≤_};
+ghost use lib.ListN.{length};
 ghost use Rattle.texts.specs.Field.{field};
 ghost use Rattle.numbers.specs.Number.{number};
-ghost use Rattle.times.specs.Time.{leap, daysIn, year, month, day, hour, minute, second, realDay, realClock};
-ghost use Rattle.times.specs.Promises.{IsRealTime, IsRealDate, IsEarlier};
+ghost use Rattle.sizes.specs.Sizes.{timeLength};
+ghost use Rattle.calendar.specs.Calendar.{allSeconds};
+ghost use Rattle.calendar.specs.laws.Order.{stamp};
+ghost use Rattle.times.specs.Seconds.{momentOf};
+ghost use Rattle.times.specs.laws.Back.{Fits};
+ghost use Rattle.times.specs.Promises.{TimeOf, IsRealTime, IsRealDate, IsEarlier, WriteTime};
 
-fn is_leap(y: u64) -> bool
-    ensures { λ r. ⌜ r ≡ leap y ⌝ }
-{
-    ((y % 4 == 0) & (y % 100 != 0)) | (y % 400 == 0)
-}
-
-fn days_in(y: u64, m: u64) -> u64
-    ensures { λ r. ⌜ r ≡ daysIn y m ⌝ }
-{
-    if !((1 <= m) & (m <= 12)) {
-        return 0;
-    }
-    if m == 2 {
-        if is_leap(y) {
-            return 29;
-        }
-        return 28;
-    }
-    if (m == 4) | (m == 6) | (m == 9) | (m == 11) {
-        return 30;
-    }
-    31
+// The seconds of a real time since 00010101000000.
+pub enum Time {
+    Real(u64),
+    Unreal,
 }
 
 // The number that positions `from` to `to` write.
@@ -38,31 +25,47 @@ fn number_at(t: &[u8], from: usize, to: usize) -> u64
     numbers::number(texts::field(t, from, to))
 }
 
-fn has_day(t: &[u8]) -> bool
-    ensures { λ r. ⌜ r ≡ realDay (year (now (t .entry))) (month (now (t .entry))) (day (now (t .entry))) ⌝ }
+// The six numbers of a text.
+fn moment(t: &[u8]) -> calendar::Moment
+    ensures { λ r. ⌜ r ≡ momentOf (now (t .entry)) ⌝ }
 {
-    let y = number_at(t, 1, 4);
-    let m = number_at(t, 5, 6);
-    let d = number_at(t, 7, 8);
-    ((1 <= y) & (y <= 9999)) & ((1 <= d) & (d <= days_in(y, m)))
+    calendar::Moment {
+        year: number_at(t, 1, 4),
+        month: number_at(t, 5, 6),
+        day: number_at(t, 7, 8),
+        hour: number_at(t, 9, 10),
+        minute: number_at(t, 11, 12),
+        second: number_at(t, 13, 14),
+    }
 }
 
-fn has_clock(t: &[u8]) -> bool
-    ensures { λ r. ⌜ r ≡ realClock (hour (now (t .entry))) (minute (now (t .entry))) (second (now (t .entry))) ⌝ }
+// Is a text a real time, and how many seconds after 00010101000000 is it.
+pub fn time_of(t: &[u8]) -> Time
+    ensures { λ r. ⌜ TimeOf (now (t .entry)) r ⌝ }
 {
-    (number_at(t, 9, 10) <= 23) & (number_at(t, 11, 12) <= 59) & (number_at(t, 13, 14) <= 59)
+    let x = moment(t);
+    if fields::is_digits(t, sizes::TIME) & calendar::is_moment(x) {
+        return Time::Real(calendar::seconds(x));
+    }
+    Time::Unreal
 }
 
 pub fn is_real_time(t: &[u8]) -> bool
     ensures { λ r. ⌜ IsRealTime (now (t .entry)) r ⌝ }
 {
-    fields::is_digits(t, sizes::TIME) & (has_day(t) & has_clock(t))
+    match time_of(t) {
+        Time::Real(_) => true,
+        Time::Unreal => false,
+    }
 }
 
 pub fn is_real_date(d: &[u8]) -> bool
     ensures { λ r. ⌜ IsRealDate (now (d .entry)) r ⌝ }
 {
-    fields::is_digits(d, 8) & has_day(d)
+    let y = number_at(d, 1, 4);
+    let m = number_at(d, 5, 6);
+    let day = number_at(d, 7, 8);
+    fields::is_digits(d, 8) & calendar::is_day(y, m, day)
 }
 
 // Does `a` come before `b` by the bytes.
@@ -80,4 +83,22 @@ pub fn is_earlier(a: &[u8], b: &[u8]) -> bool
         i += 1;
     }
     false
+}
+
+// The digits of a moment, YYYYMMDDhhmmss, as one number.
+fn digits(x: calendar::Moment) -> u64
+    requires { ⌜ Fits x ⌝ }
+    ensures { λ r. ⌜ r ≡ stamp (x .year) (x .month) (x .day) (x .hour) (x .minute) (x .second) ⌝ }
+{
+    let date = (x.year * 100 + x.month) * 100 + x.day;
+    ((date * 100 + x.hour) * 100 + x.minute) * 100 + x.second
+}
+
+// The time so many seconds after 00010101000000, written over a whole text.
+pub fn write_time(to: &mut [u8], seconds: u64)
+    requires { ⌜ (length (now to) ≡ timeLength) × (seconds < allSeconds) ⌝ }
+    ensures { λ _. ⌜ WriteTime (now (to .entry)) seconds (now (to .exit)) ⌝ }
+{
+    let x = calendar::moment_at(seconds);
+    numbers::put_number(to, 1, sizes::TIME, digits(x));
 }

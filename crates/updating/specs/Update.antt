@@ -1,7 +1,7 @@
 -- The provider's update of his copy: its stops, its answer, and the copy after it, for every mode and texts of every length.
 -- h is the HGV, s what the provider was sent. Assumes nothing.
 use Prim.Native.Nat.{ℕ}
-use mathlib.Core.Bool.{Bool, not}
+use mathlib.Core.Bool.{Bool, not, _&&_}
 use mathlib.Core.List.{List, [], _∷_, _++_}
 use lib.Dec.{ltb}
 use lib.ListN.{length}
@@ -22,6 +22,7 @@ use Rattle.register.specs.Register.{inOrder}
 use Rattle.slots.specs.Search.{ofActor}
 use Rattle.holdings.specs.Holdings.{holdings}
 use Rattle.stops.specs.Stops.{modeHolds, fullWith220001}
+use Rattle.offsets.specs.Offset.{utc, utcHolds}
 use Rattle.receipts.specs.Receipt.{listOf, receptionOf, takenBy, receiptHolds}
 use Rattle.provider.specs.declared.Counted.{Counted}
 use Rattle.provider.specs.Answer.{stopCounts, successCounts}
@@ -47,17 +48,25 @@ copyStops mode copy h =
     ∷ (32 if not (framesHold h))
     ∷ []
 
--- what each taken line's slot is stamped with: the HGC's list, and its reception
+-- when the file was received, in UTC: the HGC shows it in local time
+abbrev pub receivedAt : Sent → List ℕ
+receivedAt s = utc (s .offset) (receptionOf (s .hgc))
+
+-- what each taken line's slot is stamped with: the HGC's list, and its reception in UTC
 abbrev pub sentStamp : Sent → List ℕ
-sentStamp s = stamp (listOf (s .hgc)) (receptionOf (s .hgc))
+sentStamp s = stamp (listOf (s .hgc)) (receivedAt s)
 
 -- the records that follow: the taken lines applied as the import applies them
 unfoldable pub copyFollowing : Sent → List ℕ → List (List ℕ)
 copyFollowing s copy = holdings (s .mode) (sender (s .hgv)) (slotOf (sentStamp s)) (records copy) (takenBy (s .hgv) (s .hgc))
 
--- 52, and 33: more used slots would follow than there are
+-- the HGC answers the HGV, the offset is in range, and the UTC year stays within 0001-9999
+unfoldable pub sentHolds : Sent → Bool
+sentHolds s = receiptHolds (s .hgv) (s .hgc) && utcHolds (s .offset) (receptionOf (s .hgc))
+
+-- 52 where this does not hold, and 33: more used slots would follow than there are
 unfoldable pub receiptStops : Sent → List ℕ → List Rule
-receiptStops s copy = (52 if not (receiptHolds (s .hgv) (s .hgc))) ∷ (33 if ltb (slotsIn copy) (length (copyFollowing s copy))) ∷ []
+receiptStops s copy = (52 if not (sentHolds s)) ∷ (33 if ltb (slotsIn copy) (length (copyFollowing s copy))) ∷ []
 
 -- the number answered: the first that holds, 0 for success
 unfoldable pub updateNumber : Sent → List ℕ → ℕ

@@ -25,7 +25,8 @@ use Rattle.numbers.specs.Number.{numberAfter, number, decimal, zeros}
 use Rattle.pans.specs.Pan.{pan, doubled, addend, luhnSum, luhn}
 use Rattle.plates.specs.Plate.{allowed, plate, nationality, separated, separator}
 use Rattle.issuers.specs.Rows.{rowHolds, rowsHold, sentBy, rowBegins, rowFits, known, someRowBegins, someRowFits}
-use Rattle.times.specs.Time.{daysIn, realTime, realDate}
+use Rattle.calendar.specs.Calendar.{daysIn}
+use Rattle.times.specs.Time.{realTime, realDate}
 use Rattle.vehicles.specs.Vehicle.{tariffHolds, classHolds, emissionHolds, productHolds, engineHolds, validToHolds, separatorHolds, fieldsHold, vehicleHolds}
 use Rattle.weights.specs.Weights.{limits, meets, meetsEach, missing, allows, weightHolds}
 use Rattle.times.specs.Order.{earlier}

@@ -46,7 +46,7 @@ module _ (s : Sent) (copy : List ℕ) (r : Counted) (c : List ℕ) (o : Update s
 
   pub update-refusal : (r .number ≡ 0 → ⊥) → (r ≡ record { number = r .number; taken = 0; rejected = 0 }) × (c ≡ copy)
   unfolding Update stopCounts
-  update-refusal k = (o .0 ∙ sym (update-refused (s .mode) copy (s .hgv) (s .hgc) (r .number) update-is k), o .1 ∙ sym (copy-stays (s .mode) copy (s .hgv) (s .hgc) (r .number) update-is k))
+  update-refusal k = (o .0 ∙ sym (update-refused (s .mode) (s .offset) copy (s .hgv) (s .hgc) (r .number) update-is k), o .1 ∙ sym (copy-stays (s .mode) (s .offset) copy (s .hgv) (s .hgc) (r .number) update-is k))
 
 -- ---- the lookups
 

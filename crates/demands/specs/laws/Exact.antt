@@ -28,7 +28,7 @@ use Rattle.sizes.specs.Modes.{isFull}
 use Rattle.holdings.specs.laws.Storing.{all-grows}
 use Rattle.upkeep.specs.Holds.{Holds}
 use Rattle.importer.specs.declared.Imported.{Imported}
-use Rattle.importer.specs.Import.{judged, fileStamp, following, confirmed, importNumber, success, hgcWritten}
+use Rattle.importer.specs.Import.{judged, fileStamp, following, confirmed, importNumber, success, hgcWritten, shown}
 use Rattle.importer.specs.Promises.{Import}
 use Rattle.importer.specs.laws.Follows.{adds-up, holds-following, others-same, places-same}
 use Rattle.provider.specs.declared.Counted.{Counted}
@@ -105,11 +105,11 @@ module _ (f : Handed) (register : List ℕ) (r : Imported) (b g : List ℕ) (o :
     unfolding following taken
     records-are = holds .held ∙ rw verdicts-are
 
-    pub length-is : r .length ≡ length (confirmation (f .reception) (f .hgv) vs)
+    pub length-is : r .length ≡ length (confirmation (shown f) (f .hgv) vs)
     unfolding success confirmed
     length-is = ap (λ (a : Imported). a .length) (done-is f register r b g o z) ∙ rw verdicts-are
 
-    pub buffer-is : g ≡ confirmation (f .reception) (f .hgv) vs ++ drop (r .length) (f .hgc)
+    pub buffer-is : g ≡ confirmation (shown f) (f .hgv) vs ++ drop (r .length) (f .hgc)
     unfolding hgcWritten confirmed
     buffer-is = hgc-is f register r b g o z ∙ rw (verdicts-are, length-is)
 

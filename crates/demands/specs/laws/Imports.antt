@@ -9,7 +9,7 @@ use Rattle.theory.specs.laws.Stopped.{number-kept}
 use Rattle.stops.specs.Stops.{callStops, fileStops, formStops, formStop}
 use Rattle.stops.specs.laws.Clear.{clear}
 use Rattle.importer.specs.declared.Imported.{Imported}
-use Rattle.importer.specs.Import.{judgedStops, stops, importNumber, refusal, success, registerWritten, hgcWritten, importAnswer}
+use Rattle.importer.specs.Import.{judgedStops, stops, importNumber, refusal, success, registerWritten, hgcWritten, importAnswer, timed}
 use Rattle.importer.specs.Promises.{Import}
 use Rattle.importer.specs.laws.Numbers.{Formed, stop-answer, stop-register, stop-hgc, done-answer, done-register, done-hgc}
 use Rattle.importer.specs.Handed.{Handed}
@@ -30,7 +30,7 @@ module _ (f : Handed) (register : List ℕ) (r : Imported) (b g : List ℕ) (o :
   -- ---- a number behind the stops of form
 
   abbrev fs : List Rule
-  fs = formStops (f .mode) (f .reception) register (f .rows) (f .hgv)
+  fs = formStops (f .mode) (timed f) register (f .rows) (f .hgv)
 
   module _ (k : ℕ) (l : 32 < k) (e : r .number ≡ k) where
     -- none of them has it
@@ -51,7 +51,7 @@ module _ (f : Handed) (register : List ℕ) (r : Imported) (b g : List ℕ) (o :
 
     pub form-clear : Formed f register
     unfolding formStop
-    form-clear = clear (f .mode) (f .reception) register (f .rows) (f .hgv) (form-passed .0)
+    form-clear = clear (f .mode) (timed f) register (f .rows) (f .hgv) (form-passed .0)
 
   -- ---- a stop
 

@@ -21,10 +21,11 @@ use Rattle.upkeep.specs.Holds.{Holds}
 use Rattle.applying.specs.Fit.{Fit}
 use Rattle.applying.specs.laws.Follows.{follows}
 use Rattle.importer.specs.Handed.{Handed}
-use Rattle.importer.specs.Import.{fileStamp}
+use Rattle.importer.specs.Import.{fileStamp, shown}
 use Rattle.provider.specs.laws.Held.{list-held}
 use Rattle.updating.specs.Sent.{Sent, sent}
-use Rattle.updating.specs.Update.{ownHolds, copyStops, copyFollowing, receiptStops, updateNumber, updateAnswer, copyWritten, copyAfter}
+use Rattle.offsets.specs.laws.Shift.{local-back, local-utc}
+use Rattle.updating.specs.Update.{ownHolds, copyStops, copyFollowing, receiptStops, updateNumber, updateAnswer, copyWritten, copyAfter, sentHolds}
 use Rattle.demands.specs.Own.{own}
 use Rattle.demands.specs.laws.Own.{own-holdings, fit-own, own-stays}
 use Rattle.importer.specs.laws.Numbers.{Formed}
@@ -68,11 +69,11 @@ module _ (f : Handed) (register vs : List ℕ) (s : Sound f register vs) where
   module _ (copy : List ℕ) (m : Mirrors (sender (f .hgv)) register copy) where
     -- the HGC that he gets
     abbrev g : List ℕ
-    g = confirmation (f .reception) (f .hgv) vs
+    g = confirmation (shown f) (f .hgv) vs
 
     -- what he was sent
     abbrev entry : Sent
-    entry = sent (f .mode) (f .hgv) g
+    entry = sent (f .mode) (f .offset) (f .hgv) g
 
     -- no stop from 21 to 32 was given
     c : Formed f register
@@ -87,10 +88,15 @@ module _ (f : Handed) (register vs : List ℕ) (s : Sound f register vs) where
     unfolding ownHolds own
     his-own = rw (m .held) (passes-each (ofActor (sender (f .hgv))) (sift-passes (ofActor (sender (f .hgv))) (records register)))
 
-    -- the records that follow in the copy, by the HGC's list and reception and the lines read off as taken
+    -- 52 is not given: the local time that the HGC shows has a UTC time, which is the reception
+    said : sentHolds entry ≡ true
+    unfolding sentHolds
+    said = rw (receipt f register vs s, reception-read f register vs s) (local-utc (f .offset) (f .reception) (c .received))
+
+    -- the records that follow in the copy, by the HGC's list, its reception in UTC and the lines read off as taken
     copied-is : copyFollowing entry copy ≡ holdings (f .mode) (sender (f .hgv)) (slotOf (fileStamp f)) (records copy) ls
     unfolding copyFollowing
-    copied-is = rw (list-held (f .hgv) g (receipt f register vs s), reception-read f register vs s, taken-are f register vs s)
+    copied-is = rw (list-held (f .hgv) g (receipt f register vs s), reception-read f register vs s, local-back (f .offset) (f .reception) (c .received), taken-are f register vs s)
 
     -- are his of those that follow in the register
     copied-own : copyFollowing entry copy ≡ own (sender (f .hgv)) (followingBy vs f register)
@@ -133,7 +139,7 @@ module _ (f : Handed) (register vs : List ℕ) (s : Sound f register vs) where
           c .counted,
           c .footed,
           c .framed,
-          receipt f register vs s,
+          said,
           le-ltb (slotsIn copy) (length (copyFollowing entry copy)) room,
         )
 

@@ -12,6 +12,7 @@ use Rattle.theory.specs.laws.Stopped.{at-success}
 use Rattle.hgv.specs.Layout.{linesIn}
 use Rattle.claims.specs.Claims.{receiverHolds}
 use Rattle.stops.specs.Stops.{addressed}
+use Rattle.importer.specs.Import.{shown}
 use Rattle.importer.specs.Handed.{Handed}
 use Rattle.provider.specs.Answer.{successCounts}
 use Rattle.reading.specs.ReadBack.{hgvStops, blockStops, readNumber, readAnswer, verdictsWritten, verdictsAfter}
@@ -29,7 +30,7 @@ addressed-receiver rows h = and-left (receiverHolds h) _
 module _ (f : Handed) (register vs : List ℕ) (s : Sound f register vs) where
   -- the HGC
   abbrev g : List ℕ
-  g = confirmation (f .reception) (f .hgv) vs
+  g = confirmation (shown f) (f .hgv) vs
 
   -- the counts read are the import's
   pub counts-same : successCounts (f .hgv) g ≡ ownCounts vs

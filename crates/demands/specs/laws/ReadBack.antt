@@ -29,7 +29,8 @@ use Rattle.pairing.specs.laws.Firsts.{marks-is, left-is}
 use Rattle.receipts.specs.Receipt.{answersIn, answersOf, receptionOf, takenOf, rejectedOf, reasonOf, reasonHolds, textsOf, marksOf, takenBy, copiesHold, countsHold, lineHolds, takenHold, saysHold, linesHold, receiptHolds}
 use Rattle.reading.specs.ReadBack.{reasonsOf, readVerdicts}
 use Rattle.receipts.specs.laws.Written.{same-texts, line-holds, each-answered, answers-in, answers-of, taken-of, rejected-of, form-holds, names-hold, outcome-holds, reception-is, copies-of}
-use Rattle.importer.specs.laws.Numbers.{Formed}
+use Rattle.importer.specs.Import.{shown}
+use Rattle.importer.specs.laws.Numbers.{Formed, formed-shown}
 use Rattle.verdicts.specs.Verdict.{taken}
 use Rattle.hgc.specs.Confirmation.{confirmation}
 use Rattle.demands.specs.laws.Reasons.{reason-holds}
@@ -38,13 +39,13 @@ use Rattle.demands.specs.laws.Sound.{Sound}
 module _ (f : Handed) (register vs : List ℕ) (s : Sound f register vs) where
   -- the HGC
   abbrev g : List ℕ
-  g = confirmation (f .reception) (f .hgv) vs
+  g = confirmation (shown f) (f .hgv) vs
 
   c : Formed f register
   c = s .formed
 
-  dated : length (f .reception) ≡ 14
-  dated = real-length (f .reception) (c .received)
+  dated : length (shown f) ≡ 14
+  dated = real-length (shown f) (formed-shown f register c)
 
   one-each : length vs ≡ linesIn (f .hgv)
   one-each = s .for-each
@@ -56,16 +57,16 @@ module _ (f : Handed) (register vs : List ℕ) (s : Sound f register vs) where
   unfolding textsOf
   one-text = one-each ∙ sym (length-map (linesOf (f .hgv)) (text (widthOf (f .hgv))) ∙ length-lines (f .hgv))
 
-  -- the reception that the HGC names is the import's
-  pub reception-read : receptionOf g ≡ (f .reception)
-  reception-read = reception-is (f .reception) (f .hgv) vs dated (c .sized) one-each
+  -- the reception that the HGC names is the import's, in local time
+  pub reception-read : receptionOf g ≡ (shown f)
+  reception-read = reception-is (shown f) (f .hgv) vs dated (c .sized) one-each
 
   -- ---- which lines were taken
 
   -- so the HGC's copies say of each line whether it was taken
   pub marks-are : marksOf (f .hgv) g ≡ map mark vs
   unfolding marksOf
-  marks-are = rw (copies-of (f .reception) (f .hgv) vs dated (c .sized) one-each) (marks-is (textsOf (f .hgv)) vs one-text (s .firsts-taken))
+  marks-are = rw (copies-of (shown f) (f .hgv) vs dated (c .sized) one-each) (marks-is (textsOf (f .hgv)) vs one-text (s .firsts-taken))
 
   -- the lines read off as taken are those that were
   pub taken-are : takenBy (f .hgv) g ≡ taken vs (f .hgv)
@@ -76,7 +77,7 @@ module _ (f : Handed) (register vs : List ℕ) (s : Sound f register vs) where
   pub copies-hold : copiesHold (f .hgv) g ≡ true
   unfolding copiesHold
   copies-hold =
-      rw (copies-of (f .reception) (f .hgv) vs dated (c .sized) one-each, left-is (textsOf (f .hgv)) vs one-text (s .firsts-taken)) (same-texts (pick bad vs (textsOf (f .hgv))))
+      rw (copies-of (shown f) (f .hgv) vs dated (c .sized) one-each, left-is (textsOf (f .hgv)) vs one-text (s .firsts-taken)) (same-texts (pick bad vs (textsOf (f .hgv))))
 
   -- ---- the counts
 
@@ -86,17 +87,17 @@ module _ (f : Handed) (register vs : List ℕ) (s : Sound f register vs) where
   count-taken = ap length taken-are ∙ tally-pick good vs (linesOf (f .hgv)) (omega (arith, one-each, length-lines (f .hgv)))
 
   pub count-rejected : answersIn (f .hgv) g ≡ tally bad vs
-  count-rejected = answers-in (f .reception) (f .hgv) vs dated (c .sized) one-each
+  count-rejected = answers-in (shown f) (f .hgv) vs dated (c .sized) one-each
 
   few : tally good vs + tally bad vs ≤ linesMost
   few = omega (arith, tallies vs, one-each, lines-most (f .hgv) (c .sized))
 
   -- fifteen digits are enough for both
   taken-told : number (takenOf g) ≡ length (takenBy (f .hgv) g)
-  taken-told = ap number (taken-of (f .reception) (f .hgv) vs dated (c .sized) one-each) ∙ number-15 (tally good vs) (omega (arith, few)) ∙ sym count-taken
+  taken-told = ap number (taken-of (shown f) (f .hgv) vs dated (c .sized) one-each) ∙ number-15 (tally good vs) (omega (arith, few)) ∙ sym count-taken
 
   rejected-told : number (rejectedOf g) ≡ answersIn (f .hgv) g
-  rejected-told = ap number (rejected-of (f .reception) (f .hgv) vs dated (c .sized) one-each) ∙ number-15 (tally bad vs) (omega (arith, few)) ∙ sym count-rejected
+  rejected-told = ap number (rejected-of (shown f) (f .hgv) vs dated (c .sized) one-each) ∙ number-15 (tally bad vs) (omega (arith, few)) ∙ sym count-rejected
 
   -- and the header says so
   pub counts-hold : countsHold (f .hgv) g ≡ true
@@ -108,7 +109,7 @@ module _ (f : Handed) (register vs : List ℕ) (s : Sound f register vs) where
   -- each is one that an HGC may name
   pub reasons-hold : each (reasonHolds (widthOf (f .hgv))) (answersOf (f .hgv) g) ≡ true
   reasons-hold =
-      rw (answers-of (f .reception) (f .hgv) vs dated (c .sized) one-each)
+      rw (answers-of (shown f) (f .hgv) vs dated (c .sized) one-each)
       (passes-each (reasonHolds (widthOf (f .hgv)))
       (each-answered (widthOf (f .hgv)) wide (reason-holds (widthOf (f .hgv)))
       (s .named-each) (each-line (f .hgv))))
@@ -120,7 +121,7 @@ module _ (f : Handed) (register vs : List ℕ) (s : Sound f register vs) where
   -- they are the verdicts of the lines rejected
   pub reasons-are : map (λ a. number (reasonOf (widthOf (f .hgv)) a)) (answersOf (f .hgv) g) ≡ pick bad vs vs
   reasons-are =
-      rw (answers-of (f .reception) (f .hgv) vs dated (c .sized) one-each)
+      rw (answers-of (shown f) (f .hgv) vs dated (c .sized) one-each)
       (sym (map-map number (reasonOf (widthOf (f .hgv))) (answers (widthOf (f .hgv)) vs (linesOf (f .hgv))))
       ∙ ap (map number) (reasons-answers (widthOf (f .hgv)) wide vs (each-line (f .hgv)) (omega (arith, one-each, length-lines (f .hgv))))
       ∙ map-map number (decimal 2) (pick bad vs vs)
@@ -147,11 +148,11 @@ module _ (f : Handed) (register vs : List ℕ) (s : Sound f register vs) where
   unfolding receiptHolds saysHold linesHold
   receipt =
       rw (
-        form-holds (f .reception) (f .hgv) vs dated (c .sized) one-each,
-        names-hold (f .reception) (f .hgv) vs dated (c .sized) one-each,
+        form-holds (shown f) (f .hgv) vs dated (c .sized) one-each,
+        names-hold (shown f) (f .hgv) vs dated (c .sized) one-each,
         reception-read,
-        c .received,
-        outcome-holds (f .reception) (f .hgv) vs dated (c .sized) one-each,
+        formed-shown f register c,
+        outcome-holds (shown f) (f .hgv) vs dated (c .sized) one-each,
         reasons-hold,
         copies-hold,
         counts-hold,

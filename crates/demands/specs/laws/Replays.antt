@@ -85,7 +85,7 @@ module _ (limit : List ℕ → Bool) (f : Handed) (register b g : List ℕ) (a :
   another-step who copy d m = rw (a .after) (another-mirrors f register vs s who copy d m)
 
   -- the sender's, updated by what was sent back, mirrors it again, and the update answered the import's own counts
-  applied-step : (copy : List ℕ) → Mirrors (sender (f .hgv)) register copy → (u : Counted) (c : List ℕ) → Update (sent (f .mode) (f .hgv) g) copy u c
+  applied-step : (copy : List ℕ) → Mirrors (sender (f .hgv)) register copy → (u : Counted) (c : List ℕ) → Update (sent (f .mode) (f .offset) (f .hgv) g) copy u c
       → Mirrors (sender (f .hgv)) b c × (u ≡ ownCounts vs)
   unfolding Update
   applied-step copy m u c (x, y) = rw (a .after, x, y, a .sent-back) (update-mirrors f register vs s copy m, update-answer f register vs s copy m)

@@ -39,7 +39,7 @@ use Rattle.upkeep.specs.laws.Makes.{each-makes}
 use Rattle.applying.specs.Fit.{Fit}
 use Rattle.importer.specs.Handed.{Handed}
 use Rattle.importer.specs.Import.{fileStamp}
-use Rattle.importer.specs.laws.Numbers.{Formed}
+use Rattle.importer.specs.laws.Numbers.{Formed, formed-received}
 use Rattle.pairing.specs.laws.Faithful.{Judges, lines-first}
 use Rattle.receipts.specs.Receipt.{textsOf}
 use Rattle.demands.specs.Weighed.{L10Under, rulesUnder, verdictUnder, judgedUnder, followingBy}
@@ -66,7 +66,7 @@ pub fit : (f : Handed) (register vs : List ℕ) → Sound f register vs → Fit 
 unfolding followingBy
 fit f register vs s =
     record {
-      made = each-makes (fileStamp f) (each-storable (sender (f .hgv)) (listSequence (f .hgv)) (f .reception) (header-list (f .hgv) (s .formed .headed)) (s .formed .received) (s .his) (s .hold));
+      made = each-makes (fileStamp f) (each-storable (sender (f .hgv)) (listSequence (f .hgv)) (f .reception) (header-list (f .hgv) (s .formed .headed)) (formed-received f register (s .formed)) (s .his) (s .hold));
       apart = s .apart;
       free = s .free;
       room = s .room;

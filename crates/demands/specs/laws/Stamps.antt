@@ -34,7 +34,7 @@ use Rattle.importer.specs.declared.Imported.{Imported}
 use Rattle.importer.specs.Handed.{Handed}
 use Rattle.importer.specs.Import.{judged, fileStamp, following, importNumber}
 use Rattle.importer.specs.Promises.{Import}
-use Rattle.importer.specs.laws.Numbers.{Formed, accepted-clear}
+use Rattle.importer.specs.laws.Numbers.{Formed, accepted-clear, formed-received}
 use Rattle.importer.specs.laws.Accepted.{lines-storable}
 use Rattle.importer.specs.laws.Follows.{fit}
 use Rattle.lookups.specs.Lookup.{panNumber, panPlace, plateNumber, platePlace}
@@ -44,12 +44,12 @@ use Rattle.applying.specs.Fit.{Fit}
 use Rattle.applying.specs.laws.Follows.{follows}
 use Rattle.receipts.specs.Receipt.{listOf, receptionOf, takenBy, receiptHolds}
 use Rattle.provider.specs.declared.Counted.{Counted}
-use Rattle.provider.specs.laws.Held.{received-held, list-held, taken-storable}
+use Rattle.provider.specs.laws.Held.{list-held}
 use Rattle.updating.specs.Sent.{Sent}
-use Rattle.updating.specs.Update.{copyStops, sentStamp, copyFollowing, receiptStops, updateNumber, copyWritten, copyAfter}
+use Rattle.updating.specs.Update.{copyStops, sentStamp, copyFollowing, receiptStops, updateNumber, copyWritten, copyAfter, receivedAt, sentHolds}
 use Rattle.updating.specs.Promises.{Update}
 use Rattle.updating.specs.laws.Numbers.{Sound, copy-sound}
-use Rattle.updating.specs.laws.Fits.{taken-fit}
+use Rattle.updating.specs.laws.Fits.{receipt-holds, received-real, lines-storable as sent-storable, taken-fit}
 use Rattle.demands.specs.Verdicts.{Verdicts}
 use Rattle.demands.specs.laws.Answered.{update-is}
 use Rattle.demands.specs.laws.Imports.{number-0}
@@ -100,7 +100,7 @@ module _ (f : Handed) (register : List ℕ) (r : Imported) (b g : List ℕ) (o :
   unfolding following
   touched =
       rw (← lines-are, holds f register r b g o z .held)
-      (each-map (λ x k t. carries (sender (f .hgv)) (listSequence (f .hgv)) (f .reception) (header-list (f .hgv) (c .headed)) (c .received) x (k t))
+      (each-map (λ x k t. carries (sender (f .hgv)) (listSequence (f .hgv)) (f .reception) (header-list (f .hgv) (c .headed)) (formed-received f register c) x (k t))
       (applying.each-stamped (f .mode) (sender (f .hgv)) (fileStamp f) (slotsIn register) (records register) ls (fit f register e) (ordered register (c .ordered) .apart) (lines-storable f register c)))
 
   pub untouched : Each (λ x. mem (panOf x) (map panOf (pick good vs (linesOf (f .hgv)))) ≡ false → mem x (records register) ≡ true) (records b)
@@ -122,18 +122,24 @@ module _ (s : Sent) (copy : List ℕ) (u : Counted) (c : List ℕ) (o : Update s
   sound : Sound copy (s .hgv)
   sound = copy-sound (s .mode) copy (s .hgv) (neither .0)
 
-  held : (receiptHolds (s .hgv) (s .hgc) ≡ true) × (length (copyFollowing s copy) ≤ slotsIn copy)
+  held : (sentHolds s ≡ true) × (length (copyFollowing s copy) ≤ slotsIn copy)
   unfolding receiptStops numbered
   held = go (first-clear (receiptStops s copy) refl (neither .1))
     where
-      go : None (receiptStops s copy) → (receiptHolds (s .hgv) (s .hgc) ≡ true) × (length (copyFollowing s copy) ≤ slotsIn copy)
-      go (more a (more b none)) = (not-false (receiptHolds (s .hgv) (s .hgc)) a, ltb-false (slotsIn copy) (length (copyFollowing s copy)) b)
+      go : None (receiptStops s copy) → (sentHolds s ≡ true) × (length (copyFollowing s copy) ≤ slotsIn copy)
+      go (more a (more b none)) = (not-false (sentHolds s) a, ltb-false (slotsIn copy) (length (copyFollowing s copy)) b)
+
+  receipt : receiptHolds (s .hgv) (s .hgc) ≡ true
+  receipt = receipt-holds (s .mode) (s .offset) (s .hgv) (s .hgc) (sound .headed) (held .0)
+
+  received : realTime (receivedAt s) ≡ true
+  received = received-real (s .mode) (s .offset) (s .hgv) (s .hgc) (sound .headed) (held .0)
 
   abbrev ms : List (List ℕ)
   ms = takenBy (s .hgv) (s .hgc)
 
   fits : Fit (s .mode) (sender (s .hgv)) (slotOf (sentStamp s)) (slotsIn copy) (records copy) ms
-  fits = taken-fit (s .hgv) (s .hgc) (sound .headed) (held .0) (s .mode) copy (sound .own) (held .1)
+  fits = taken-fit (s .mode) (s .offset) (s .hgv) (s .hgc) (sound .headed) (held .0) copy (sound .own) (held .1)
 
   follows-held : records c ≡ copyFollowing s copy
   unfolding Update copyAfter copyWritten copyFollowing
@@ -141,12 +147,12 @@ module _ (s : Sent) (copy : List ℕ) (u : Counted) (c : List ℕ) (o : Update s
       rw (o .1, at-success (updateNumber s copy) (copyWritten s copy) copy n)
       (follows (s .mode) (sender (s .hgv)) (slotOf (sentStamp s)) copy ms (sound .ordered) fits .held)
 
-  pub update-touched : Each (λ x. mem (panOf x) (map panOf ms) ≡ true → Carries (listOf (s .hgc)) (receptionOf (s .hgc)) x) (records c)
+  pub update-touched : Each (λ x. mem (panOf x) (map panOf ms) ≡ true → Carries (listOf (s .hgc)) (receivedAt s) x) (records c)
   unfolding copyFollowing
   update-touched =
       rw follows-held
-      (each-map (λ x k t. carries (sender (s .hgv)) (listOf (s .hgc)) (receptionOf (s .hgc)) (rw (list-held (s .hgv) (s .hgc) (held .0)) (header-list (s .hgv) (sound .headed))) (received-held (s .hgv) (s .hgc) (held .0)) x (k t))
-      (applying.each-stamped (s .mode) (sender (s .hgv)) (sentStamp s) (slotsIn copy) (records copy) ms fits (ordered copy (sound .ordered) .apart) (taken-storable (s .hgv) (s .hgc) (held .0) (sound .headed))))
+      (each-map (λ x k t. carries (sender (s .hgv)) (listOf (s .hgc)) (receivedAt s) (rw (list-held (s .hgv) (s .hgc) receipt) (header-list (s .hgv) (sound .headed))) received x (k t))
+      (applying.each-stamped (s .mode) (sender (s .hgv)) (sentStamp s) (slotsIn copy) (records copy) ms fits (ordered copy (sound .ordered) .apart) (sent-storable (s .mode) (s .offset) (s .hgv) (s .hgc) (sound .headed) (held .0))))
 
   pub update-untouched : Each (λ x. mem (panOf x) (map panOf ms) ≡ false → mem x (records copy) ≡ true) (records c)
   unfolding copyFollowing

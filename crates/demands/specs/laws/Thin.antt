@@ -35,7 +35,7 @@ use Rattle.stops.specs.Stops.{formStops, formStop}
 use Rattle.stops.specs.laws.Clear.{clear}
 use Rattle.importer.specs.declared.Imported.{Imported}
 use Rattle.importer.specs.Handed.{Handed}
-use Rattle.importer.specs.Import.{judged, fileStamp, following, confirmed, judgedStops, stops, importNumber}
+use Rattle.importer.specs.Import.{judged, fileStamp, following, confirmed, judgedStops, stops, importNumber, timed}
 use Rattle.importer.specs.Promises.{Import}
 use Rattle.importer.specs.laws.Numbers.{Formed, number-judged, accepted-clear, accepted-passed}
 use Rattle.importer.specs.laws.Accepted.{lines-his}
@@ -60,7 +60,7 @@ module _ (f : Handed) (register : List ℕ) (r : Imported) (b g : List ℕ) (o :
   from = sender (f .hgv)
 
   abbrev fs : List Rule
-  fs = formStops (f .mode) (f .reception) register (f .rows) (f .hgv)
+  fs = formStops (f .mode) (timed f) register (f .rows) (f .hgv)
 
   module _ (vs : List ℕ) (v : Verdicts (f .rows) from (records register) (linesOf (f .hgv)) vs) where
     verdicts-are : judged register (f .rows) (f .hgv) ≡ vs
@@ -71,7 +71,7 @@ module _ (f : Handed) (register : List ℕ) (r : Imported) (b g : List ℕ) (o :
 
     clear-form : None fs → Formed f register
     unfolding formStop
-    clear-form n = clear (f .mode) (f .reception) register (f .rows) (f .hgv) (first-none n)
+    clear-form n = clear (f .mode) (timed f) register (f .rows) (f .hgv) (first-none n)
 
     pub stopped-so : None fs → f .mode ≡ full → 2 * tally good vs < countOf from (records register) → r .number ≡ 35
     unfolding judgedStops first choose

@@ -25,7 +25,7 @@ use Rattle.verdicts.specs.Verdict.{ownRules, verdictRules, verdict, verdictsOf,
 use Rattle.stops.specs.laws.Clear.{clear, clear-none}
 use Rattle.importer.specs.declared.Imported.{Imported}
 use Rattle.importer.specs.Handed.{Handed}
-use Rattle.importer.specs.Import.{judged, following, confirmed, success, registerWritten, hgcWritten}
+use Rattle.importer.specs.Import.{judged, following, confirmed, success, registerWritten, hgcWritten, timed}
 use Rattle.importer.specs.Promises.{Import}
 use Rattle.importer.specs.laws.Numbers.{accepted-clear, accepted-passed}
 use Rattle.demands.specs.History.{acceptance}
@@ -45,7 +45,7 @@ unfolding receiptHoldsBefore
 receipt-before h g = and-left (receiptHolds h g) (each limitBefore (takenBy h g))
 
 pub accepted-sound : (limit : List ℕ → Bool) (f : Handed) (register b g : List ℕ) → AcceptedUnder limit f register b g → Sound f register (judgedUnder limit f register)
-accepted-sound limit f register b g a = sound limit f register (clear (f .mode) (f .reception) register (f .rows) (f .hgv) (a .form)) (a .room)
+accepted-sound limit f register b g a = sound limit f register (clear (f .mode) (timed f) register (f .rows) (f .hgv) (a .form)) (a .room)
 
 -- the verdicts under today's limits are the import's
 pub judged-today : (f : Handed) (register : List ℕ) → judgedUnder weightHolds f register ≡ judged register (f .rows) (f .hgv)
@@ -63,7 +63,7 @@ module _ (f : Handed) (register : List ℕ) (r : Imported) (b g : List ℕ) (o :
   accepted-today =
       let e = number-0 f register r b g o z in
       record {
-        form = clear-none (f .mode) (f .reception) register (f .rows) (f .hgv) (accepted-clear f register e);
+        form = clear-none (f .mode) (timed f) register (f .rows) (f .hgv) (accepted-clear f register e);
         room = rw (judged-today f register) (accepted-passed f register e .slots);
         after = rw (judged-today f register) (register-is f register r b g o z);
         sent-back = rw (judged-today f register) hgc-cut;

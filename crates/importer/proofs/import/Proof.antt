@@ -1,13 +1,15 @@
 -- Assumes nothing.
 use Rattle.importer.specs.Promises.{Import}
-use mathlib.Core.Path.{sym, _∙_}
+use mathlib.Core.Path.{_≡_, sym, _∙_}
 use native.Mathlib.Omega.{arith}
-use Rattle.stops.specs.laws.Clear.{clear}
 use Rattle.importer.specs.Handed.{handed}
 use Rattle.importer.specs.laws.Numbers.{number-form, stop-answer, stop-register, stop-hgc}
 use lib.Seq.{length-take-le}
 use Rattle.applying.specs.laws.Sought.{no-places}
-use Rattle.importer.proofs.Laws.{lines-in-most}
+use mir.Syntax.{w64}
+use mir.Val.{toZ, ofZ}
+use mir.ValLaws.{toZ-ofZ}
+use Rattle.importer.proofs.Laws.{in-range, offset-is, formed-ahead, lines-in-most}
 use borrow.Author.Needs.{needs}
 use Rattle.importer.proofs.import.Statement.{statement}
 use Rattle.importer.proofs.import.Tie as tie
@@ -15,36 +17,45 @@ use Rattle.importer.proofs.import.Tie as tie
 returns : tie.Need-returns
 unfolding Import
 returns c =
-    let a = c .before .before .before .before .before .before .before .before .before .args in
-    let f = handed (a .mode) (a .reception .now) (a .rows .now) (a .hgv .now) (a .hgc .now) in
+    let s = c .before .before .before .before .before .before .before .before .before .before in
+    let a = s .args in
+    let f = handed (a .mode) (a .reception .now) (a .offset) (a .rows .now) (a .hgv .now) (a .hgc .now) in
     let k = c .before .if1 .taken in
-    let n = number-form f _ _ (c .before .before .form-stop .ensures) k in
+    let e : toZ w64 (ofZ w64 (a .offset)) ≡ a .offset = toZ-ofZ w64 (a .offset) (s .fits .offset) in
+    let n = number-form f _ _ (rw (c .before .before .before .before .has-local .ensures, e) at (c .before .before .form-stop .ensures)) k in
     (c .refused .ensures ∙ stop-answer f _ _ n k, (stop-register f _ _ n k, stop-hgc f _ _ n k))
 
+ahead-requires : tie.Need-ahead-requires
+ahead-requires c κs = in-range _ _ _ _ _ _ _ (c .before .before .before .has-local .ensures) _ (c .before .form-stop .ensures) (c .if1 .left)
+
 array-borrow-prefix-verdicts : tie.Need-array-borrow-prefix-verdicts
-array-borrow-prefix-verdicts c = lines-in-most _ _ _ _ _ _ (c .before .before .before .before .form-stop .ensures) (c .before .before .before .if1 .left) _ (c .before .before .lines-in .ensures)
+array-borrow-prefix-verdicts c = lines-in-most _ _ _ _ _ _ (c .before .before .before .before .before .form-stop .ensures) (c .before .before .before .before .if1 .left) _ (c .before .before .lines-in .ensures)
 
 slice-aggregate-import-lines : tie.Need-slice-aggregate-import-lines
-slice-aggregate-import-lines c =
-    sym (length-take-le _ _ (omega (arith, lines-in-most _ _ _ _ _ _ (c .before .before .before .before .before .form-stop .ensures) (c .before .before .before .before .if1 .left) _ (c .before .before .before .lines-in .ensures))))
+slice-aggregate-import-lines c = sym (length-take-le _ _ (omega (arith, lines-in-most _ _ _ _ _ _ (c .before .before .before .before .before .before .form-stop .ensures) (c .before .before .before .before .before .if1 .left) _ (c .before .before .before .lines-in .ensures))))
 
 array-borrow-prefix-found : tie.Need-array-borrow-prefix-found
-array-borrow-prefix-found c = lines-in-most _ _ _ _ _ _ (c .before .before .before .before .before .form-stop .ensures) (c .before .before .before .before .if1 .left) _ (c .before .before .before .lines-in .ensures)
+array-borrow-prefix-found c = lines-in-most _ _ _ _ _ _ (c .before .before .before .before .before .before .form-stop .ensures) (c .before .before .before .before .before .if1 .left) _ (c .before .before .before .lines-in .ensures)
 
 slice-aggregate-import-lines-2 : tie.Need-slice-aggregate-import-lines-2
-slice-aggregate-import-lines-2 c =
-    sym (length-take-le _ _ (omega (arith, lines-in-most _ _ _ _ _ _ (c .before .before .before .before .before .before .form-stop .ensures) (c .before .before .before .before .before .if1 .left) _ (c .before .before .before .before .lines-in .ensures))))
+slice-aggregate-import-lines-2 c = sym (length-take-le _ _ (omega (arith, lines-in-most _ _ _ _ _ _ (c .before .before .before .before .before .before .before .form-stop .ensures) (c .before .before .before .before .before .before .if1 .left) _ (c .before .before .before .before .lines-in .ensures))))
 
 import-lines-requires : tie.Need-import-lines-requires
 import-lines-requires c κs =
     let n = c .before .before .before .before .lines-in .ensures in
-    let form = c .before .before .before .before .before .before .form-stop .ensures in
-    let left = c .before .before .before .before .before .if1 .left in
+    let form = c .before .before .before .before .before .before .before .form-stop .ensures in
+    let left = c .before .before .before .before .before .before .if1 .left in
     let m = lines-in-most _ _ _ _ _ _ form left _ n in
-    (clear _ _ _ _ _ (sym form ∙ left), (length-take-le _ _ (omega (arith, m)) ∙ n, (length-take-le _ _ (omega (arith, m)) ∙ n, no-places _ m)))
+    (
+      formed-ahead _ _ _ _ _ _ _ (c .before .before .before .before .before .before .before .before .before .has-local .ensures) _ form left _ (c .before .before .before .before .before .ahead .ensures),
+      (length-take-le _ _ (omega (arith, m)) ∙ n, (length-take-le _ _ (omega (arith, m)) ∙ n, no-places _ m)),
+    )
 
 returns-2 : tie.Need-returns-2
-returns-2 c = c .before .before .before .before .before .before .import-lines .ensures
+returns-2 c =
+    let s = c .before .before .before .before .before .before .before .before .before .before .before .before .before .before .before .before .before .before .before .before .before .before in
+    let e : toZ w64 (ofZ w64 (s .args .offset)) ≡ s .args .offset = toZ-ofZ w64 (s .args .offset) (s .fits .offset) in
+    rw (offset-is _ _ _ _ _ _ _ (c .before .before .before .before .before .before .before .before .before .before .before .before .before .before .before .before .has-local .ensures) _ (c .before .before .before .before .before .before .before .before .before .before .before .before .before .before .form-stop .ensures) (c .before .before .before .before .before .before .before .before .before .before .before .before .before .if1 .left) _ (c .before .before .before .before .before .before .before .before .before .before .before .before .ahead .ensures), e) at (c .before .before .before .before .before .before .import-lines .ensures)
 
 pub import-spec : {M : Type 1} → statement M
 import-spec =
@@ -52,8 +63,10 @@ import-spec =
     (tie.spec
     (λ c κs. search needs)
     (λ c κs. search needs)
+    (λ c κs. search needs)
     (λ c. search needs)
     returns
+    ahead-requires
     (λ c κs. search needs)
     array-borrow-prefix-verdicts
     slice-aggregate-import-lines

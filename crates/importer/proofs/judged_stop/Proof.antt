@@ -3,6 +3,7 @@ use mathlib.Core.Path.{refl}
 use Rattle.theory.specs.First.{first}
 use Rattle.theory.specs.laws.First.{chosen}
 use Rattle.hgv.specs.laws.Layout.{is-width}
+use Rattle.offsets.specs.Ahead.{offsetOf}
 use Rattle.importer.specs.Handed.{handed}
 use Rattle.importer.specs.Import.{judgedStops}
 use Rattle.importer.proofs.Laws.{lines-fit, used-few, rejected-most, taken-few, thin-is, slots-are, buffer-is}
@@ -14,7 +15,7 @@ used-after-requires : tie.Need-used-after-requires
 used-after-requires c κs =
     let x = c .before .before .before .before .before .before .before .before .before .before .before in
     let a = x .args in
-    let f = handed (a .mode) (a .reception .now) (a .rows .now) (a .hgv .now) (a .hgc .now) in
+    let f = handed (a .mode) (a .reception .now) (offsetOf (a .ahead)) (a .rows .now) (a .hgv .now) (a .hgc .now) in
     let (clear, (verdicts, (_, (bad, many)))) = x .pre in
     (lines-fit f _ _ _ clear verdicts bad _ (c .before .before .body .ensures) _ (c .before .width .ensures), (many, used-few f _ _ _ clear verdicts bad))
 
@@ -22,7 +23,7 @@ length-for-requires : tie.Need-length-for-requires
 length-for-requires c κs =
     let x = c .before .before .before .before .before .before .before .before .before .before .before .before .before .before .before in
     let a = x .args in
-    let f = handed (a .mode) (a .reception .now) (a .rows .now) (a .hgv .now) (a .hgc .now) in
+    let f = handed (a .mode) (a .reception .now) (offsetOf (a .ahead)) (a .rows .now) (a .hgv .now) (a .hgc .now) in
     let (clear, (verdicts, (_, (bad, _)))) = x .pre in
     (rw (c .width2 .ensures) (is-width _ .1), rejected-most f _ _ _ clear verdicts bad)
 
@@ -30,7 +31,7 @@ is-thin-requires : tie.Need-is-thin-requires
 is-thin-requires c κs =
     let x = c .before .before .before .before .before .before .before .before .before .before .before .before .before .before .before .before .before .before .before in
     let a = x .args in
-    let f = handed (a .mode) (a .reception .now) (a .rows .now) (a .hgv .now) (a .hgc .now) in
+    let f = handed (a .mode) (a .reception .now) (offsetOf (a .ahead)) (a .rows .now) (a .hgv .now) (a .hgc .now) in
     let (clear, (verdicts, (good, (bad, _)))) = x .pre in
     taken-few f _ _ _ clear verdicts bad _ good
 
@@ -40,7 +41,7 @@ returns c =
     let d = c .before .before .before in
     let x = d .before .before .before .before .before .before .before .before .before .before .before .before .before .before .before .before .before .before in
     let a = x .args in
-    let f = handed (a .mode) (a .reception .now) (a .rows .now) (a .hgv .now) (a .hgc .now) in
+    let f = handed (a .mode) (a .reception .now) (offsetOf (a .ahead)) (a .rows .now) (a .hgv .now) (a .hgc .now) in
     let (clear, (verdicts, (good, (bad, _)))) = x .pre in
     let used = d .before .before .before .before .before .before .used-after .ensures in
     let width = d .before .before .before .before .before .before .before .before .width .ensures in

@@ -37,7 +37,7 @@ use Rattle.holdings.specs.Room.{usedAfter}
 use Rattle.holdings.specs.laws.Room.{used-after}
 use Rattle.importer.specs.Handed.{Handed}
 use Rattle.importer.specs.Import.{judged, fileStamp, following, shown, confirmed}
-use Rattle.importer.specs.laws.Numbers.{Formed}
+use Rattle.importer.specs.laws.Numbers.{Formed, formed-received, formed-shown}
 
 module _ (f : Handed) (register : List ℕ) (c : Formed f register) where
   -- ---- the taken lines
@@ -68,7 +68,7 @@ module _ (f : Handed) (register : List ℕ) (c : Formed f register) where
 
   -- so they can be stored under the file's stamp
   pub lines-storable : Each (λ l. storable (fileStamp f) l ≡ true) ls
-  lines-storable = each-storable (sender (f .hgv)) (listSequence (f .hgv)) (f .reception) (header-list (f .hgv) (c .headed)) (c .received) lines-his lines-hold
+  lines-storable = each-storable (sender (f .hgv)) (listSequence (f .hgv)) (f .reception) (header-list (f .hgv) (c .headed)) (formed-received f register c) lines-his lines-hold
 
   -- and their slots have their PANs and actors
   pub lines-made : Each (Makes (slotOf (fileStamp f))) ls
@@ -100,7 +100,7 @@ module _ (f : Handed) (register : List ℕ) (c : Formed f register) where
 
     pub confirmed-length : (r : ℕ) → r ≡ tally bad vs → length (confirmed f register) ≡ confirmationLength (widthOf (f .hgv)) r
     unfolding confirmed
-    confirmed-length r k = rw (← e, k) (length-confirmation (shown f) (f .hgv) vs (real-length (shown f) (c .received)) (c .sized) verdict-each)
+    confirmed-length r k = rw (← e, k) (length-confirmation (shown f) (f .hgv) vs (real-length (shown f) (formed-shown f register c)) (c .sized) verdict-each)
 
 -- the file's form is right, its lines are judged, and there is room for what follows
 pub record Accepted (f : Handed) (register vs : List ℕ) (t r : ℕ) (found : List ℕ) : Type 0 where

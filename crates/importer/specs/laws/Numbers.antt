@@ -12,33 +12,43 @@ use Rattle.theory.specs.laws.Stopped.{at-stop, at-success, by-first, by-second,
 use Rattle.theory.specs.Pick.{good}
 use Rattle.theory.specs.Tally.{tally}
 use Rattle.header.specs.Header.{sender}
+use Rattle.times.specs.Time.{realTime}
+use Rattle.offsets.specs.laws.Shift.{received, local-real}
 use Rattle.slots.specs.Slots.{slotsIn, records}
 use Rattle.thinness.specs.Thin.{thin}
 use Rattle.stops.specs.Stops.{callStops, fileStops, formStops, formStop}
 use Rattle.stops.specs.laws.Clear.{Clear, clear, clear-none}
 use Rattle.importer.specs.Handed.{Handed}
-use Rattle.importer.specs.Import.{judged, following, confirmed, judgedStops, stops, importNumber, refusal, success, registerWritten, hgcWritten, importAnswer, registerAfter, hgcAfter}
+use Rattle.importer.specs.Import.{judged, following, confirmed, judgedStops, shown, timed, stops, importNumber, refusal, success, registerWritten, hgcWritten, importAnswer, registerAfter, hgcAfter}
 
 -- the file's form is right: none of 21 to 32
 abbrev pub Formed : Handed → List ℕ → Type 0
-Formed f register = Clear (f .mode) (f .reception) register (f .rows) (f .hgv)
+Formed f register = Clear (f .mode) (timed f) register (f .rows) (f .hgv)
+
+-- then the reception is a real time, and so is what the sender is shown
+module _ (f : Handed) (register : List ℕ) (c : Formed f register) where
+  pub formed-received : realTime (f .reception) ≡ true
+  formed-received = received (f .offset) (f .reception) (c .received) .real
+
+  pub formed-shown : realTime (shown f) ≡ true
+  formed-shown = local-real (f .offset) (f .reception) (c .received)
 
 module _ (f : Handed) (register : List ℕ) where
   abbrev number : ℕ
   number = importNumber f register
 
   -- every stop of form has a number
-  forms : numbered (formStops (f .mode) (f .reception) register (f .rows) (f .hgv)) ≡ true
+  forms : numbered (formStops (f .mode) (timed f) register (f .rows) (f .hgv)) ≡ true
   unfolding formStops callStops fileStops numbered
   forms = refl
 
-  pub number-form : (n : ℕ) → n ≡ formStop (f .mode) (f .reception) register (f .rows) (f .hgv) → (n ≡ 0 → ⊥) → n ≡ number
+  pub number-form : (n : ℕ) → n ≡ formStop (f .mode) (timed f) register (f .rows) (f .hgv) → (n ≡ 0 → ⊥) → n ≡ number
   unfolding importNumber stops formStop
-  number-form = by-first (formStops (f .mode) (f .reception) register (f .rows) (f .hgv)) (judgedStops f register) forms
+  number-form = by-first (formStops (f .mode) (timed f) register (f .rows) (f .hgv)) (judgedStops f register) forms
 
   pub number-judged : Formed f register → (n : ℕ) → n ≡ first (judgedStops f register) → n ≡ number
   unfolding importNumber stops formStop
-  number-judged c = by-second (formStops (f .mode) (f .reception) register (f .rows) (f .hgv)) (judgedStops f register) forms (clear-none (f .mode) (f .reception) register (f .rows) (f .hgv) c)
+  number-judged c = by-second (formStops (f .mode) (timed f) register (f .rows) (f .hgv)) (judgedStops f register) forms (clear-none (f .mode) (timed f) register (f .rows) (f .hgv) c)
 
   -- ---- a stop
 
@@ -87,12 +97,12 @@ module _ (f : Handed) (register : List ℕ) where
       }
 
   -- 0 is answered only where no stop holds
-  neither : number ≡ 0 → (formStop (f .mode) (f .reception) register (f .rows) (f .hgv) ≡ 0) × (first (judgedStops f register) ≡ 0)
+  neither : number ≡ 0 → (formStop (f .mode) (timed f) register (f .rows) (f .hgv) ≡ 0) × (first (judgedStops f register) ≡ 0)
   unfolding importNumber stops formStop
-  neither = by-neither (formStops (f .mode) (f .reception) register (f .rows) (f .hgv)) (judgedStops f register) forms
+  neither = by-neither (formStops (f .mode) (timed f) register (f .rows) (f .hgv)) (judgedStops f register) forms
 
   pub accepted-clear : number ≡ 0 → Formed f register
-  accepted-clear e = clear (f .mode) (f .reception) register (f .rows) (f .hgv) (neither e .0)
+  accepted-clear e = clear (f .mode) (timed f) register (f .rows) (f .hgv) (neither e .0)
 
   pub accepted-passed : number ≡ 0 → Passed
   accepted-passed e = judged-passed (neither e .1)

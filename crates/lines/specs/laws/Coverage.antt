@@ -27,7 +27,8 @@ use Rattle.characters.specs.Characters.{hex, filled}
 use Rattle.characters.specs.laws.Filled.{filled-all}
 use Rattle.numbers.specs.Number.{number}
 use Rattle.times.specs.Time.{realTime}
-use Rattle.times.specs.laws.Moment.{within, real-length, real-all}
+use Rattle.calendar.specs.laws.Bounds.{within}
+use Rattle.times.specs.laws.Moment.{real-length, real-all}
 use Rattle.pans.specs.Pan.{panLength, pan}
 use Rattle.plates.specs.Plate.{allowed, plateLength, plate, nationality, separator, separated, plateCharacters}
 use Rattle.columns.specs.Columns.{text, actor, panOf, plateOf, nationalityOf, tariff, class, axles, emission, fuel, chargeable, productRest, engine, validTo, separatorOf}

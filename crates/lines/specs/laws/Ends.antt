@@ -16,8 +16,10 @@ use Rattle.texts.specs.Field.{field}
 use Rattle.fields.specs.Field.{zeroDigit}
 use Rattle.numbers.specs.Number.{number, numberAfter}
 use Rattle.times.specs.Time.{realTime}
-use Rattle.times.specs.laws.Moment.{within, real-moment}
-use Rattle.times.specs.laws.Order.{seconds, byte-order}
+use Rattle.calendar.specs.laws.Bounds.{within}
+use Rattle.times.specs.Seconds.{seconds}
+use Rattle.times.specs.laws.Moment.{real-moment}
+use Rattle.times.specs.laws.Order.{byte-order}
 use Rattle.columns.specs.Columns.{validTo}
 use Rattle.lines.specs.End.{endOf, active}
 

@@ -17,7 +17,7 @@ use Rattle.theory.specs.laws.Every.{run-length, run-all, all-at}
 use Rattle.theory.specs.laws.Truth.{and-left, and-right, and-split}
 use Rattle.texts.specs.Field.{field}
 use Rattle.fields.specs.Field.{digit, capital, blank}
-use Rattle.times.specs.laws.Moment.{within}
+use Rattle.calendar.specs.laws.Bounds.{within}
 use Rattle.plates.specs.Plate.{nationality}
 use Rattle.vehicles.specs.Vehicle.{vehicleHolds}
 use Rattle.weights.specs.Weights.{weightHolds}

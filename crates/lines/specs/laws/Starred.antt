@@ -10,7 +10,8 @@ use Rattle.theory.specs.Same.{eqs}
 use Rattle.theory.specs.Every.{all, run, leading}
 use Rattle.texts.specs.Field.{field}
 use Rattle.numbers.specs.Number.{number, numberAfter}
-use Rattle.times.specs.Time.{daysIn, realTime}
+use Rattle.calendar.specs.Calendar.{daysIn}
+use Rattle.times.specs.Time.{realTime}
 use Rattle.times.specs.Order.{earlier}
 use Rattle.pans.specs.Pan.{doubled, addend, luhnSum, luhn}
 use Rattle.plates.specs.Plate.{allowed, plateCharacters, separated, separator}

@@ -94,13 +94,13 @@ module _ (h g : List ℕ) where
     pub taken-apart : distinct (map panOf (takenBy h g)) ≡ true
     taken-apart = matched .apart
 
-    -- beside a header in form each can be stored under the stamp of the list that the HGC names
-    module _ (headed : headerHolds h ≡ true) where
-      pub taken-storable : Each (λ l. storable (stamp (listOf g) (receptionOf g)) l ≡ true) (takenBy h g)
-      taken-storable = each-storable (sender h) (listOf g) (receptionOf g) (rw list-held (header-list h headed)) received-held (matched .own) (matched .records)
+    -- beside a header in form each can be stored under the stamp of the list that the HGC names, and of a real time
+    module _ (headed : headerHolds h ≡ true) (t : List ℕ) (real : realTime t ≡ true) where
+      pub taken-storable : Each (λ l. storable (stamp (listOf g) t) l ≡ true) (takenBy h g)
+      taken-storable = each-storable (sender h) (listOf g) t (rw list-held (header-list h headed)) real (matched .own) (matched .records)
 
-      pub taken-made : Each (Makes (slotOf (stamp (listOf g) (receptionOf g)))) (takenBy h g)
-      taken-made = each-makes (stamp (listOf g) (receptionOf g)) taken-storable
+      pub taken-made : Each (Makes (slotOf (stamp (listOf g) t))) (takenBy h g)
+      taken-made = each-makes (stamp (listOf g) t) taken-storable
 
 -- as the code learns it: r says whether the HGC holds, and ms are its marks
 module _ (h g : List ℕ) (r : Bool) (er : r ≡ receiptHolds h g) (k : not r ≡ false) where

@@ -15,7 +15,8 @@ use Rattle.texts.specs.Field.{field}
 use Rattle.fields.specs.Field.{digit}
 use Rattle.fields.specs.laws.Spans.{Span, span, oneOf, cover, Held, Fixes, one-rule, moved, same-held, text-held, each-moved}
 use Rattle.numbers.specs.Number.{number}
-use Rattle.times.specs.Time.{year, month, day, realDay, realDate}
+use Rattle.calendar.specs.Calendar.{realDay}
+use Rattle.times.specs.Time.{year, month, day, realDate}
 use Rattle.times.specs.laws.Date.{date-is}
 use Rattle.sequences.specs.Sequence.{sequence}
 

@@ -12,15 +12,14 @@ returns : tie.Need-returns
 unfolding callStops first
 returns c =
     chosen _ _ _ _ _ _ (c .first4 .ensures) (ap not (c .before .is-mode .ensures)) (
-    chosen _ _ _ _ _ _ (c .before .before .first3 .ensures) (ap not (c .before .before .before .is-real-time .ensures)) (
-    chosen _ _ _ _ _ _ (c .before .before .before .before .first2 .ensures) (ap not (c .before .before .before .before .before .in-order .ensures)) (
-    chosen _ _ _ _ _ _ (c .before .before .before .before .before .before .first .ensures) (ap not (c .before .before .before .before .before .before .before .are-rows .ensures)) refl)))
+    chosen _ _ _ _ _ _ (c .before .before .first3 .ensures) refl (
+    chosen _ _ _ _ _ _ (c .before .before .before .first2 .ensures) (ap not (c .before .before .before .before .in-order .ensures)) (
+    chosen _ _ _ _ _ _ (c .before .before .before .before .before .first .ensures) (ap not (c .before .before .before .before .before .before .are-rows .ensures)) refl)))
 
 pub call-stop-spec : {M : Type 1} → statement M
 call-stop-spec =
     tie.close
     (tie.spec
-    (λ c κs. search needs)
     (λ c κs. search needs)
     (λ c κs. search needs)
     (λ c κs. search needs)

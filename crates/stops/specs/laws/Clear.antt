@@ -1,12 +1,11 @@
 -- What was handed over where no stop from 21 to 32 is given. Assumes nothing.
 use mathlib.Core.Path.{_≡_, refl}
-use mathlib.Core.Bool.{true, false}
+use mathlib.Core.Bool.{Bool, true, false}
 use mathlib.Core.List.{List}
 use Prim.Native.Nat.{ℕ}
 use borrow.Author.Tests.{not-false}
 use Rattle.theory.specs.First.{None, first, choose}
 use Rattle.theory.specs.laws.First.{first-clear, numbered, fitsAt, none-at}
-use Rattle.times.specs.Time.{realTime}
 use Rattle.issuers.specs.Rows.{rowsHold}
 use Rattle.hgv.specs.Layout.{lengthHolds}
 use Rattle.frames.specs.Frames.{footerHolds, framesHold}
@@ -15,9 +14,9 @@ use Rattle.claims.specs.Claims.{versionHolds, countHolds}
 use Rattle.register.specs.Register.{inOrder}
 use Rattle.stops.specs.Stops.{modeHolds, fullWith220001, addressed, callStops, fileStops, formStops, formStop}
 
-pub record Clear (mode : ℕ) (reception register b h : List ℕ) : Type 0 where
+pub record Clear (mode : ℕ) (timed : Bool) (register b h : List ℕ) : Type 0 where
   pub moded : modeHolds mode ≡ true
-  pub received : realTime reception ≡ true
+  pub received : timed ≡ true
   pub ordered : inOrder register ≡ true
   pub rowed : rowsHold b ≡ true
   pub sized : lengthHolds h ≡ true
@@ -29,14 +28,14 @@ pub record Clear (mode : ℕ) (reception register b h : List ℕ) : Type 0 where
   pub footed : footerHolds h ≡ true
   pub framed : framesHold h ≡ true
 
-module _ (mode : ℕ) (reception register b h : List ℕ) where
-  pub clear : formStop mode reception register b h ≡ 0 → Clear mode reception register b h
+module _ (mode : ℕ) (timed : Bool) (register b h : List ℕ) where
+  pub clear : formStop mode timed register b h ≡ 0 → Clear mode timed register b h
   unfolding formStop formStops callStops fileStops numbered fitsAt
   clear e =
-      let none : None (formStops mode reception register b h) = first-clear (formStops mode reception register b h) refl e in
+      let none : None (formStops mode timed register b h) = first-clear (formStops mode timed register b h) refl e in
       record {
         moded = not-false (modeHolds mode) (none-at 21 none);
-        received = not-false (realTime reception) (none-at 22 none);
+        received = not-false timed (none-at 22 none);
         ordered = not-false (inOrder register) (none-at 23 none);
         rowed = not-false (rowsHold b) (none-at 24 none);
         sized = not-false (lengthHolds h) (none-at 25 none);
@@ -50,7 +49,7 @@ module _ (mode : ℕ) (reception register b h : List ℕ) where
       }
 
   -- and only then
-  pub clear-none : Clear mode reception register b h → formStop mode reception register b h ≡ 0
+  pub clear-none : Clear mode timed register b h → formStop mode timed register b h ≡ 0
   unfolding formStop formStops callStops fileStops first choose
   clear-none c =
       rw (c .moded, c .received, c .ordered, c .rowed, c .sized, c .headed, c .versioned, c .fitting, c .sent, c .counted, c .footed, c .framed)

@@ -12,6 +12,6 @@ is-mode-one mode r s = one-outcome
 pub is-full-with-220001-one : (mode : ℕ) (h : List ℕ) (r s : Bool) → IsFullWith220001 mode h r → IsFullWith220001 mode h s → r ≡ s
 is-full-with-220001-one mode h r s = one-outcome
 
-pub form-stop-one : (mode : ℕ) (reception register rows h : List ℕ) (r s : ℕ)
-    → FormStop mode reception register rows h r → FormStop mode reception register rows h s → r ≡ s
-form-stop-one mode reception register rows h r s = one-outcome
+pub form-stop-one : (mode : ℕ) (timed : Bool) (register rows h : List ℕ) (r s : ℕ)
+    → FormStop mode timed register rows h r → FormStop mode timed register rows h s → r ≡ s
+form-stop-one mode timed register rows h r s = one-outcome

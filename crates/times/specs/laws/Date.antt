@@ -16,7 +16,8 @@ use Rattle.texts.specs.Field.{field}
 use Rattle.texts.specs.laws.Field.{field-before, field-behind}
 use Rattle.fields.specs.Field.{digit}
 use Rattle.numbers.specs.Number.{number, numberAfter}
-use Rattle.times.specs.Time.{year, month, day, hour, minute, second, realDay, realClock, realMoment, realTime, realDate}
+use Rattle.calendar.specs.Calendar.{realDay, realClock, realMoment}
+use Rattle.times.specs.Time.{year, month, day, hour, minute, second, realTime, realDate}
 use Rattle.times.specs.laws.Moment.{real-all, real-numbers}
 
 abbrev midnight : List ℕ

@@ -16,13 +16,11 @@ use Rattle.texts.specs.Field.{field}
 use Rattle.fields.specs.Field.{digit}
 use Rattle.numbers.specs.Number.{number, numberAfter}
 use Rattle.times.specs.Time.{year, month, day, hour, minute, second, realTime}
-use Rattle.times.specs.laws.Moment.{within, real-length, real-all, real-moment}
-use Rattle.times.specs.laws.Calendar.{secs, stamp, later}
+use Rattle.calendar.specs.laws.Bounds.{within}
+use Rattle.calendar.specs.laws.Order.{stamp, later}
+use Rattle.times.specs.Seconds.{seconds}
+use Rattle.times.specs.laws.Moment.{real-length, real-all, real-moment}
 use Rattle.times.specs.Order.{earlier}
-
--- the seconds from 00010101000000 to a real time
-unfoldable pub seconds : List ℕ → ℕ
-seconds t = secs (year t) (month t) (day t) (hour t) (minute t) (second t)
 
 -- two texts of which neither is earlier are one
 neither : (a b : List ℕ) → earlier a b ≡ false → earlier b a ≡ false → a ≡ b

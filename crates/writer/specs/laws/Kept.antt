@@ -20,7 +20,8 @@ use Rattle.theory.specs.laws.Walk.{each-passes}
 use Rattle.theory.specs.laws.Join.{each-chop}
 use Rattle.sizes.specs.Sizes.{linesMost, timeLength}
 use Rattle.fields.specs.Field.{digit}
-use Rattle.times.specs.Time.{year, month, day, realDay, realTime, realDate}
+use Rattle.calendar.specs.Calendar.{realDay}
+use Rattle.times.specs.Time.{year, month, day, realTime, realDate}
 use Rattle.times.specs.laws.Date.{date-is}
 use Rattle.times.specs.laws.Moment.{real-length}
 use Rattle.sequences.specs.Sequence.{sequence}

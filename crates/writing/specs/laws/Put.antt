@@ -1,15 +1,22 @@
 -- Laws of a field written into a text, and of a text written field by field from its front. Assumes nothing.
 use mathlib.Core.Path.{_≡_, refl, sym, ap, _∙_}
-use mathlib.Core.List.{List, [], _++_, append-assoc}
+use mathlib.Core.List.{List, [], _++_, append-assoc, append-nil}
 use Prim.Native.Nat.{ℕ, _+_, _-_, _≤_}
 use native.Mathlib.Omega.{arith}
 use native.Mathlib.Nat.{add-sub-cancel-left}
-use lib.ListN.{length, take, drop, length-append, length-take, length-drop}
+use lib.ListN.{length, take, drop, length-append, length-take, length-drop, drop-of-length-le}
 use lib.Seq.{length-take-le, take-all, take-at, drop-drop}
 use Rattle.writing.specs.Put.{putField}
 
 pub put-ap : (from : ℕ) {f g : List ℕ} (text : List ℕ) → f ≡ g → putField from f text ≡ putField from g text
 put-ap from text e = ap (λ (x : List ℕ). putField from x text) e
+
+-- a field over a whole text
+pub put-whole : (f text : List ℕ) → length f ≡ length text → putField 1 f text ≡ f
+unfolding putField
+put-whole f text e =
+    let l : length text ≤ 1 - 1 + length f = omega arith in
+    rw (drop-of-length-le text l) (append-nil f)
 
 -- k bytes lent and returned, as the borrow checker has them; g is what came back
 pub put-lent : (from k : ℕ) (f g text : List ℕ) → g ≡ f → length f ≡ k

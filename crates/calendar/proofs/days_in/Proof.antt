@@ -2,9 +2,9 @@
 use borrow.Author.Needs.{needs}
 use borrow.Author.Tests.{eq-eqb, ne-eqb, not-true, not-false}
 use Rattle.fields.specs.Field.{between}
-use Rattle.times.specs.Time.{daysIn}
-use Rattle.times.proofs.days_in.Statement.{statement}
-use Rattle.times.proofs.days_in.Tie as tie
+use Rattle.calendar.specs.Calendar.{daysIn}
+use Rattle.calendar.proofs.days_in.Statement.{statement}
+use Rattle.calendar.proofs.days_in.Tie as tie
 
 returns : tie.Need-returns
 unfolding daysIn

@@ -1,0 +1,3 @@
+pub mod Calendar
+pub mod Promises
+pub mod laws

@@ -1,0 +1,5 @@
+pub mod Bounds
+pub mod Order
+pub mod Years
+pub mod Back
+pub mod Outcomes

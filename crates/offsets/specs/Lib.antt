@@ -1,0 +1,4 @@
+pub mod Offset
+pub mod Ahead
+pub mod Promises
+pub mod laws

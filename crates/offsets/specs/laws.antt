@@ -1,0 +1,4 @@
+pub mod Whole
+pub mod Moved
+pub mod Shift
+pub mod Outcomes
