@@ -3,9 +3,10 @@
 use std::ops::Range;
 
 use crate::{hashed, plain};
-use graftspindle::raw::{self, Counted, Imported, List, Swept, Written};
+use graftspindle::raw::{self, Counted, Imported, List, Swept, Timed, Written};
 
-pub type Import = fn(u64, &[u8], &mut [u8], &[u8], &[u8], &mut [u8]) -> Imported;
+pub type Import = fn(u64, &[u8], i64, &mut [u8], &[u8], &[u8], &mut [u8]) -> Imported;
+pub type Update = fn(u64, i64, &mut [u8], &[u8], &[u8]) -> Counted;
 
 /// A lookup's number, and where its slot stands in the register.
 pub type Found = (u64, Range<usize>);
@@ -20,10 +21,11 @@ pub struct Engine {
     pub by_pan: ByPan,
     pub by_plate: ByPlate,
     pub read_back: fn(&[u8], &[u8], &mut [u8]) -> Counted,
-    pub update: fn(u64, &mut [u8], &[u8], &[u8]) -> Counted,
+    pub update: Update,
     pub in_order: fn(&[u8]) -> bool,
     pub write: fn(&List, &mut [u8]) -> Written,
     pub sweep: fn(&mut [u8], &[u8]) -> Swept,
+    pub seconds: fn(&[u8]) -> Timed,
 }
 
 pub const ENGINES: &[Engine] = &[
@@ -37,6 +39,7 @@ pub const ENGINES: &[Engine] = &[
         in_order: plain::in_order,
         write: plain::write,
         sweep: plain::sweep,
+        seconds: plain::seconds,
     },
     Engine {
         name: "hashed",
@@ -48,6 +51,7 @@ pub const ENGINES: &[Engine] = &[
         in_order: hashed::in_order,
         write: hashed::write,
         sweep: hashed::sweep,
+        seconds: plain::seconds,
     },
     Engine {
         name: "proved",
@@ -59,5 +63,6 @@ pub const ENGINES: &[Engine] = &[
         in_order: |register| raw::by_pan(register, b"0                  ").0 != 23,
         write: raw::write,
         sweep: raw::sweep,
+        seconds: raw::seconds,
     },
 ];

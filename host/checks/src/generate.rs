@@ -9,6 +9,7 @@ pub mod giving;
 pub mod giving_faults;
 pub mod large;
 pub mod line;
+pub mod offset;
 pub mod pair;
 pub mod question;
 pub mod rng;

@@ -3,10 +3,10 @@
 use std::collections::{HashMap, HashSet};
 use std::ops::Range;
 
-use crate::plain::import::{finish_import, import_stop_to_32, import_stopped};
+use crate::plain::import::{finish_import, import_stop_to_32, import_stopped, shown};
 use crate::plain::lookup::{answer_by_plate, plate_stop};
 use crate::plain::provider::{
-    count_stopped, finish_read_back, finish_update, read_back_stop_to_32, stamp_told, update_stop_to_32,
+    count_stopped, finish_read_back, finish_update, read_back_stop_to_32, reception_told, stamp_told, update_stop_to_32,
 };
 use crate::plain::register::{self, after, Stamp, SLOT};
 use crate::plain::sweep::sweep_by;
@@ -54,8 +54,16 @@ fn after_mode_1(register: &[u8], taken: &[&[u8]], stamp: &Stamp) -> Vec<Vec<u8>>
     after
 }
 
-pub fn import(mode: u64, reception: &[u8], register: &mut [u8], rows: &[u8], hgv: &[u8], hgc: &mut [u8]) -> Imported {
-    let stop = import_stop_to_32(mode, reception, register, rows, hgv, in_order);
+pub fn import(
+    mode: u64,
+    reception: &[u8],
+    offset: i64,
+    register: &mut [u8],
+    rows: &[u8],
+    hgv: &[u8],
+    hgc: &mut [u8],
+) -> Imported {
+    let stop = import_stop_to_32(mode, reception, offset, register, rows, hgv, in_order);
     if stop != 0 {
         return import_stopped(stop);
     }
@@ -64,7 +72,7 @@ pub fn import(mode: u64, reception: &[u8], register: &mut [u8], rows: &[u8], hgv
     let taken = verdict::taken_lines(&lines, &verdicts);
     let stamp = Stamp { list: hgv::list_sequence(hgv), reception };
     let after = after(mode, register, sender, &taken, &stamp, after_mode_1);
-    finish_import(mode, reception, register, hgv, hgc, &verdicts, &after)
+    finish_import(mode, &shown(reception, offset), register, hgv, hgc, &verdicts, &after)
 }
 
 pub fn by_pan(register: &[u8], pan: &[u8]) -> (u64, Range<usize>) {
@@ -138,16 +146,17 @@ pub fn read_back(hgv: &[u8], hgc: &[u8], verdicts: &mut [u8]) -> Counted {
     }
 }
 
-pub fn update(mode: u64, copy: &mut [u8], hgv: &[u8], hgc: &[u8]) -> Counted {
+pub fn update(mode: u64, offset: i64, copy: &mut [u8], hgv: &[u8], hgc: &[u8]) -> Counted {
     let stop = update_stop_to_32(mode, copy, hgv, in_order);
     if stop != 0 {
         return count_stopped(stop);
     }
-    let Some(marks) = paired(hgv, hgc) else {
+    let told = paired(hgv, hgc).and_then(|marks| Some((marks, reception_told(hgc, offset)?)));
+    let Some((marks, reception)) = told else {
         return count_stopped(52);
     };
     let taken = pairing::marked(&hgv::lines(hgv), &marks, true);
-    let after = after(mode, copy, hgv::sender(hgv), &taken, &stamp_told(hgc), after_mode_1);
+    let after = after(mode, copy, hgv::sender(hgv), &taken, &stamp_told(hgc, &reception), after_mode_1);
     finish_update(copy, &marks, &after)
 }
 

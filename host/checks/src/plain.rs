@@ -1,5 +1,6 @@
 //! The definition, plainly: linear searches, slices compared with `==`.
 
+pub mod clock;
 pub mod confirmation;
 pub mod hgv;
 pub mod import;
@@ -20,4 +21,5 @@ pub use pairing::{Clause, CLAUSES};
 pub use provider::{clauses_of_52, read_back, update};
 pub use register::in_order;
 pub use sweep::sweep;
+pub use words::seconds;
 pub use writer::{causes_of_61, write, Cause};

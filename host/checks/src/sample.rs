@@ -5,10 +5,10 @@ use crate::lists::COLUMNS;
 use graftspindle::raw::List;
 
 pub const RECEPTION: &[u8] = b"20250310050000";
-const SENDER: &str = "900123";
+pub const SENDER: &str = "900123";
 
 /// The date and the number of each list.
-const OF_DAY: &str = "2025031001";
+pub const OF_DAY: &str = "2025031001";
 
 /// A number and a Luhn digit behind it: a PAN of 16 digits.
 pub fn pan(i: usize) -> String {

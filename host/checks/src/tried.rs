@@ -1,10 +1,12 @@
 //! Whatever `lists` has, tried in full: every value of a field as a line of a file and as a record of a register, every date
 //! and every time. An implementation is handed over as the function that is asked.
 
+pub mod clocks;
 pub mod fields;
 pub mod lookups;
 pub mod pans;
 pub mod plates;
+pub mod seconds;
 pub mod stamps;
 pub mod sweeps;
 pub mod times;

@@ -6,6 +6,8 @@ mod accounts;
 mod agreement;
 #[path = "definition/boundary.rs"]
 mod boundary;
+#[path = "definition/clocks.rs"]
+mod clocks;
 #[path = "definition/common.rs"]
 mod common;
 #[path = "definition/exhaustive.rs"]

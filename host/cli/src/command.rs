@@ -33,7 +33,7 @@ use crate::files::{self, Disk, Place};
 pub use crate::say::warn;
 use arguments::Arguments;
 use graftspindle::sizes::REGISTER_MOST;
-use graftspindle::{Mode, Register};
+use graftspindle::{Mode, Offset, Register};
 use options::{Opt, Use};
 pub use refusal::Refusal;
 pub use told::{output, Told};
@@ -121,6 +121,14 @@ fn mode(given: &Arguments) -> Result<Mode, Refusal> {
         word if word == "full" => Ok(Mode::Full),
         other => Err(Refusal::Fault(format!("--mode is incremental or full, not {other}"))),
     }
+}
+
+/// Whether it is in range the proved functions say.
+fn offset(given: &Arguments) -> Result<Offset, Refusal> {
+    let Some(text) = given.text_if_given(&options::OFFSET) else {
+        return Ok(Offset::UTC);
+    };
+    text.parse().map_err(|_| Refusal::Fault(format!("--offset is +HH:MM or -HH:MM, not {text}")))
 }
 
 /// A register that is only read.

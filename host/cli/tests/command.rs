@@ -6,6 +6,8 @@ mod altered;
 mod answers;
 #[path = "command/audit.rs"]
 mod audit;
+#[path = "command/clocks.rs"]
+mod clocks;
 #[path = "command/common.rs"]
 mod common;
 #[path = "command/demo.rs"]

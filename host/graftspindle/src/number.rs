@@ -4,7 +4,7 @@ numbered! {
     /// Why a call was refused: the definition's number of the stop or of the lookup's refusal. Success, 0, is none.
     Number {
         21 Mode "the mode is neither incremental (1) nor full (2)"
-        22 Time "the time is not a real time YYYYMMDDhhmmss"
+        22 Time "the time is not a real time YYYYMMDDhhmmss, or cannot have its offset"
         23 Order "the register or copy is not in order"
         24 Rows "the issuer rows break their form"
         25 HgvLength "the HGV's length is not that of a header, up to 8,192 lines and a footer"
@@ -22,7 +22,7 @@ numbered! {
         41 NoRecord "no record fits"
         42 SeveralRecords "more than one active record fits"
         51 OtherActor "the copy has a record of another actor than the HGV's sender"
-        52 Hgc "the HGC breaks its form or does not fit the HGV"
+        52 Hgc "the HGC breaks its form, does not fit the HGV, or cannot have its offset"
         53 VerdictBlock "the block for the verdicts is too short"
         61 Given "a field or an issuer row breaks its rule, no issuer row has the sender, or there are more than 8,192 accounts"
         62 SamePan "two accounts have the same PAN"

@@ -4,7 +4,7 @@
 //!
 //! What a call does is proved for every slice of every length. What no proof covers is the boundary itself:
 //! - a declaration here is believed to be that of the export: a test compares all of them with the exports' source (name,
-//!   parameters in their order, widths, result);
+//!   parameters in their order, widths, result), and each call first asks the linked libraries which form of it they have;
 //! - a slice crosses as a pointer and a length of 64 bits, a `&mut u64` as a pointer, and the library believes them;
 //! - blocks that it may write must overlap no other block;
 //! - a call uses the caller's stack and does not ask whether it is there: less than 128 KiB for the largest
@@ -15,14 +15,18 @@
 
 mod answers;
 mod provider;
+mod revision;
 mod sweep;
+mod times;
 mod writer;
 
 use std::ops::Range;
 
-pub use answers::{Counted, Imported, Swept, Written};
+pub use answers::{Counted, Imported, Swept, Timed, Written};
 pub use provider::{read_back, update};
+pub use revision::{must_be_declared, revision, REVISION};
 pub use sweep::sweep;
+pub use times::seconds;
 pub use writer::{write, List};
 
 #[cfg(not(target_pointer_width = "64"))]
@@ -33,6 +37,7 @@ extern "C" {
         mode: u64,
         reception: *const u8,
         reception_length: usize,
+        offset: i64,
         register: *mut u8,
         register_length: usize,
         rows: *const u8,
@@ -67,8 +72,18 @@ extern "C" {
     ) -> u64;
 }
 
-/// Imports an HGV into the register, and writes its HGC into the buffer.
-pub fn import(mode: u64, reception: &[u8], register: &mut [u8], rows: &[u8], hgv: &[u8], hgc: &mut [u8]) -> Imported {
+/// Imports an HGV into the register, and writes its HGC into the buffer. The reception is UTC; the HGC shows it so many minutes
+/// later.
+pub fn import(
+    mode: u64,
+    reception: &[u8],
+    offset: i64,
+    register: &mut [u8],
+    rows: &[u8],
+    hgv: &[u8],
+    hgc: &mut [u8],
+) -> Imported {
+    revision::asked();
     let mut done = Imported::default();
     // SAFETY: each pointer and length are one live slice's, and the borrows keep the written ones apart.
     done.number = unsafe {
@@ -76,6 +91,7 @@ pub fn import(mode: u64, reception: &[u8], register: &mut [u8], rows: &[u8], hgv
             mode,
             reception.as_ptr(),
             reception.len(),
+            offset,
             register.as_mut_ptr(),
             register.len(),
             rows.as_ptr(),
@@ -98,6 +114,7 @@ fn part(start: u64, length: u64) -> Range<usize> {
 
 /// The number, and where the slot stands in the register; `0..0` at a refusal.
 pub fn by_pan(register: &[u8], pan: &[u8]) -> (u64, Range<usize>) {
+    revision::asked();
     let (mut start, mut length) = (0, 0);
     // SAFETY: each pointer and length are one live slice's; both numbers are locals.
     let number = unsafe {
@@ -108,6 +125,7 @@ pub fn by_pan(register: &[u8], pan: &[u8]) -> (u64, Range<usize>) {
 
 /// The same by plate, nationality and time.
 pub fn by_plate(register: &[u8], plate: &[u8], nationality: &[u8], time: &[u8]) -> (u64, Range<usize>) {
+    revision::asked();
     let (mut start, mut length) = (0, 0);
     // SAFETY: each pointer and length are one live slice's; both numbers are locals.
     let number = unsafe {

@@ -4,7 +4,7 @@ use std::ops::Range;
 
 use crate::number::unless_refused;
 use crate::sizes::SLOT;
-use crate::{raw, Mode, Number, Slot};
+use crate::{raw, Mode, Number, Offset, Slot};
 
 /// What is handed over with a register to import an HGV into it.
 #[derive(Clone, Copy, Debug)]
@@ -13,6 +13,8 @@ pub struct Import<'a> {
     pub mode: Mode,
     /// The moment at which the HGV was received, UTC, `YYYYMMDDhhmmss`.
     pub reception: &'a [u8],
+    /// By how much the HGC shows that moment later, in local time. Ends and stamps are UTC.
+    pub offset: Offset,
     /// The issuer rows, 24 bytes each.
     pub rows: &'a [u8],
     /// The whitelist, from the first byte of its header to the last of its footer.
@@ -68,7 +70,8 @@ impl Register {
     pub fn import(&mut self, given: &Import) -> Result<(Counts, Vec<u8>), Number> {
         // An HGC is never twice as long as its HGV.
         let mut hgc = vec![0; 2 * given.hgv.len()];
-        let done = raw::import(given.mode.number(), given.reception, &mut self.0, given.rows, given.hgv, &mut hgc);
+        let Import { mode, reception, offset, rows, hgv } = *given;
+        let done = raw::import(mode.number(), reception, offset.minutes(), &mut self.0, rows, hgv, &mut hgc);
         hgc.truncate(done.length as usize);
         unless_refused(done.number, (Counts { taken: done.taken, rejected: done.rejected }, hgc))
     }
@@ -88,9 +91,10 @@ impl Register {
         Ok(Slot::at(self.0[part].try_into().expect("it is proved that a lookup answers a whole slot")))
     }
 
-    /// The provider's update of this copy of his: applies the lines of the HGV that its HGC says were taken.
-    pub fn update(&mut self, mode: Mode, hgv: &[u8], hgc: &[u8]) -> Result<Counts, Number> {
-        let done = raw::update(mode.number(), &mut self.0, hgv, hgc);
+    /// The provider's update of this copy of his: applies the lines of the HGV that its HGC says were taken. Mode and offset are
+    /// those of the import; with another offset ends and stamps are others than ours.
+    pub fn update(&mut self, mode: Mode, offset: Offset, hgv: &[u8], hgc: &[u8]) -> Result<Counts, Number> {
+        let done = raw::update(mode.number(), offset.minutes(), &mut self.0, hgv, hgc);
         unless_refused(done.number, Counts { taken: done.taken, rejected: done.rejected })
     }
 
@@ -116,9 +120,23 @@ impl Register {
 /// Whether issuer rows are in form, 24 where they are not: an import judges them before it looks at the HGV, and no HGV is
 /// empty.
 pub fn rows_in_form(rows: &[u8]) -> Result<(), Number> {
-    let given = Import { mode: Mode::Incremental, reception: b"20000101000000", rows, hgv: &[] };
-    match Register(Vec::new()).import(&given) {
-        Err(Number::Rows) => Err(Number::Rows),
+    unless_refused_by(Number::Rows, &Import { rows, ..NOTHING })
+}
+
+/// Whether an offset is in range, 22 where it is not: an import judges it beside its reception, which here is far from both ends
+/// of the calendar.
+pub fn offset_in_range(offset: Offset) -> Result<(), Number> {
+    unless_refused_by(Number::Time, &Import { offset, ..NOTHING })
+}
+
+/// What no import takes, though not for what stands in front of the HGV.
+const NOTHING: Import =
+    Import { mode: Mode::Incremental, reception: b"20000101000000", offset: Offset::UTC, rows: &[], hgv: &[] };
+
+/// Whether an import into no slots is refused by this number.
+fn unless_refused_by(number: Number, given: &Import) -> Result<(), Number> {
+    match Register(Vec::new()).import(given) {
+        Err(refused) if refused == number => Err(number),
         _ => Ok(()),
     }
 }

@@ -3,7 +3,7 @@
 //! are asked first.
 
 use graftspindle_checks::plain::register::SLOT;
-use graftspindle_checks::tried::{lookups, pans, stamps, sweeps, times, trials, Trial};
+use graftspindle_checks::tried::{clocks, lookups, pans, seconds, stamps, sweeps, times, trials, Trial};
 use graftspindle_checks::vectors::{first_difference, PROGRAMS};
 use graftspindle_checks::{plain, sample};
 use std::panic::{catch_unwind, set_hook, AssertUnwindSafe};
@@ -24,7 +24,7 @@ fn by_vectors(crates: &Path, first: &str) -> Option<String> {
 fn verdicts(lines: &[Vec<u8>]) -> Vec<u8> {
     let (file, n) = (sample::hgv_of(lines), lines.len());
     let (mut register, mut hgc, mut told) = (vec![0; SLOT * n], vec![0; 174 + 130 * n], vec![0; n]);
-    let done = plain::import(1, sample::RECEPTION, &mut register, &sample::row(), &file, &mut hgc);
+    let done = plain::import(1, sample::RECEPTION, 0, &mut register, &sample::row(), &file, &mut hgc);
     let back = plain::read_back(&file, &hgc[..done.length as usize], &mut told);
     if done.number + back.number > 0 {
         return vec![u8::MAX; n];
@@ -44,7 +44,9 @@ fn by_lists() -> Option<String> {
     let of_trial = |trial: Trial| trial.as_records(plain::in_order).or_else(|| trial.as_lines(verdicts));
     let of_record = || pans::all_lengths(plain::in_order).or_else(|| stamps::all(plain::in_order));
     let of_lookup = || lookups::all(plain::by_pan, by_plate).or_else(|| times::all_times(is_real));
-    trials().find_map(of_trial).or_else(of_record).or_else(of_lookup).or_else(|| sweeps::all(plain::sweep))
+    let of_time = || seconds::all(plain::seconds).or_else(|| clocks::all(plain::import, plain::update));
+    let of_register = || of_lookup().or_else(|| sweeps::all(plain::sweep));
+    trials().find_map(of_trial).or_else(of_record).or_else(of_register).or_else(of_time)
 }
 
 pub fn main() {

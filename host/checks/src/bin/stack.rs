@@ -11,6 +11,9 @@ use graftspindle_checks::sample;
 const LINES: usize = 8192;
 const CALLS: [&str; 6] = ["import", "lookup", "read back", "update", "sweep", "write"];
 
+/// An hour ahead of UTC, so that times are reckoned with too.
+const OFFSET: i64 = 60;
+
 /// The ends of the records that are swept, in turn: one that is not later than the reception of the sample, and none.
 const ENDS: [&str; 2] = ["20250310050000", "00000000000000"];
 
@@ -23,7 +26,7 @@ type Call = Box<dyn FnOnce() -> bool + Send>;
 /// The register and the HGC that the largest file leaves.
 fn imported(hgv: &[u8], rows: &[u8]) -> (Vec<u8>, Vec<u8>) {
     let (mut register, mut hgc) = (vec![0; LINES * SLOT], vec![0; 174]);
-    raw::import(1, sample::RECEPTION, &mut register, rows, hgv, &mut hgc);
+    raw::import(1, sample::RECEPTION, OFFSET, &mut register, rows, hgv, &mut hgc);
     (register, hgc)
 }
 
@@ -33,15 +36,15 @@ fn prepared(call: &str) -> Call {
     let (mut register, mut hgc) = imported(&hgv, &rows);
     let taken = LINES as u64;
     match call {
-        "import" => {
-            Box::new(move || raw::import(2, sample::RECEPTION, &mut register, &rows, &hgv, &mut hgc).taken == taken)
-        }
+        "import" => Box::new(move || {
+            raw::import(2, sample::RECEPTION, OFFSET, &mut register, &rows, &hgv, &mut hgc).taken == taken
+        }),
         "lookup" => {
             let key = format!("{:<19}", sample::pan(0));
             Box::new(move || raw::by_pan(&register, key.as_bytes()).0 == 0)
         }
         "read back" => Box::new(move || raw::read_back(&hgv, &hgc, &mut vec![0; LINES]).taken == taken),
-        "update" => Box::new(move || raw::update(2, &mut register, &hgv, &hgc).taken == taken),
+        "update" => Box::new(move || raw::update(2, OFFSET, &mut register, &hgv, &hgc).taken == taken),
         "sweep" => {
             let mut ended = sample::slots((0..LINES).map(|i| sample::line_until(i, ENDS[i % 2])));
             Box::new(move || raw::sweep(&mut ended, sample::RECEPTION).removed == taken / 2)

@@ -5,6 +5,7 @@ use super::disorder::damage_register;
 use super::file::{header, hgv, register, slots, used, Header};
 use super::full::{full_list, held};
 use super::line::{break_rule, reception, right_line};
+use super::offset::{edge, either, offset, wrong_offset};
 use super::rng::Rng;
 use super::world::World;
 use crate::plain::line::LINE;
@@ -14,6 +15,7 @@ use crate::plain::{self, register::SLOT};
 pub struct Case {
     pub mode: u64,
     pub reception: Vec<u8>,
+    pub offset: i64,
     pub register: Vec<u8>,
     pub rows: Vec<u8>,
     pub hgv: Vec<u8>,
@@ -67,7 +69,9 @@ pub fn repeat_held(rng: &mut Rng, lines: &mut Vec<Vec<u8>>, register: &[u8], sen
 /// A case whose blocks are all of the right form; the buffer is long.
 fn right_case(rng: &mut Rng, world: &World) -> (Case, Header) {
     let sender = world.actor(rng);
-    let reception = reception(rng);
+    let reception = if rng.one_in(8) { edge(rng) } else { reception(rng) };
+    let offset = offset(rng);
+    let around = either(rng, &reception, offset);
     let mut header = header(rng, &sender);
     let mode = rng.between(1, 2) as u64;
     if mode == 2 {
@@ -76,12 +80,12 @@ fn right_case(rng: &mut Rng, world: &World) -> (Case, Header) {
     let most = if rng.one_in(40) { 60 } else { 9 };
     let about_half = mode == 2 && rng.one_in(3);
     let held = match about_half {
-        true => held(rng, world, &sender, &reception),
+        true => held(rng, world, &sender, &around),
         false => slots(rng, world, 10, None),
     };
     let mut lines = match about_half {
-        true => full_list(rng, world, &sender, &reception, &held.concat()),
-        false => lines(rng, world, &sender, &reception, most),
+        true => full_list(rng, world, &sender, &around, &held.concat()),
+        false => lines(rng, world, &sender, &around, most),
     };
     let register = register(&held, most + 1);
     if !about_half {
@@ -90,14 +94,15 @@ fn right_case(rng: &mut Rng, world: &World) -> (Case, Header) {
     let hgv = hgv(&header, &lines);
     let hgc_len = 174 + 130 * lines.len();
     let rows = world.bytes();
-    (Case { mode, reception, register, rows, hgv, hgc_len }, header)
+    (Case { mode, reception, offset, register, rows, hgv, hgc_len }, header)
 }
 
 /// The length the HGC will have, or that of a file without lines.
 fn exact_length(case: &Case) -> usize {
     let mut register = case.register.clone();
     let mut hgc = vec![0; case.hgc_len];
-    let answer = plain::import(case.mode, &case.reception, &mut register, &case.rows, &case.hgv, &mut hgc);
+    let Case { mode, reception, offset, rows, hgv, .. } = case;
+    let answer = plain::import(*mode, reception, *offset, &mut register, rows, hgv, &mut hgc);
     (answer.length as usize).max(174)
 }
 
@@ -132,7 +137,7 @@ fn full_list_of_220001(case: &mut Case) {
 }
 
 fn damage(rng: &mut Rng, world: &World, case: &mut Case) {
-    match rng.below(16) {
+    match rng.below(17) {
         0 => case.mode = wrong_mode(rng),
         1 => case.reception = wrong_time(rng),
         2 | 3 => damage_register(rng, world, &mut case.register),
@@ -140,6 +145,7 @@ fn damage(rng: &mut Rng, world: &World, case: &mut Case) {
         5 if case.hgv.len() >= 192 => forget_sender(case),
         6 if case.hgv.len() >= 192 => full_list_of_220001(case),
         7 => fewer_slots(rng, case),
+        16 => case.offset = wrong_offset(rng),
         kind if case.hgv.len() >= 192 => damage_hgv(rng, case, kind % 8),
         _ => case.hgv.clear(),
     }

@@ -5,6 +5,7 @@ use std::collections::HashSet;
 use super::case::{break_some_rule, Case};
 use super::file::{header, hgv, register, slot};
 use super::line::{put, put_wrong_weight, reception, right_line};
+use super::offset::offset;
 use super::rng::Rng;
 use super::world::World;
 use crate::hashed;
@@ -73,10 +74,10 @@ pub fn large(seed: u64) -> Case {
     let hgv = hgv(&header, &lines(&mut rng, &world, &sender, &reception, n));
     let used = slots(&mut rng, &world, &reception, held);
     let register = register(&used, free_slots(&mut rng, used.len(), n));
-    let mode = rng.between(1, 2) as u64;
+    let (mode, offset) = (rng.between(1, 2) as u64, offset(&mut rng));
     let rows = world.bytes();
     let mut buffer = vec![0; 174 + 130 * n];
-    let answer = hashed::import(mode, &reception, &mut register.clone(), &rows, &hgv, &mut buffer);
+    let answer = hashed::import(mode, &reception, offset, &mut register.clone(), &rows, &hgv, &mut buffer);
     let hgc_len = answer.length as usize;
-    Case { mode, reception, register, rows, hgv, hgc_len }
+    Case { mode, reception, offset, register, rows, hgv, hgc_len }
 }

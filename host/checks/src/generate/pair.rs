@@ -6,6 +6,7 @@ use super::damage::*;
 use super::disorder::damage_register;
 use super::file::{footer, header, hgv, register, slots};
 use super::line::{break_rule, plate, put, reception, right_line};
+use super::offset::{edge, either, offset, shown, wrong_offset};
 use super::rng::Rng;
 use super::world::{padded, World};
 use crate::plain::register::SLOT;
@@ -13,6 +14,7 @@ use crate::plain::register::SLOT;
 #[derive(Debug, Clone, PartialEq, Eq)]
 pub struct Pair {
     pub mode: u64,
+    pub offset: i64,
     pub copy: Vec<u8>,
     pub hgv: Vec<u8>,
     pub hgc: Vec<u8>,
@@ -159,7 +161,7 @@ fn damage_hgc(rng: &mut Rng, hgc: &mut Vec<u8>) {
 
 fn damage_rest(rng: &mut Rng, world: &World, pair: &mut Pair) {
     let n = (pair.hgv.len() - 192) / 128;
-    match rng.below(12) {
+    match rng.below(13) {
         0 => pair.mode = wrong_mode(rng),
         1 => damage_register(rng, world, &mut pair.copy),
         2 => damage_length(rng, &mut pair.hgv),
@@ -171,30 +173,33 @@ fn damage_rest(rng: &mut Rng, world: &World, pair: &mut Pair) {
         8 => damage_version(rng, &mut pair.hgv),
         9 => damage_count(rng, &mut pair.hgv),
         10 => damage_footer(rng, &mut pair.hgv),
+        11 => pair.offset = wrong_offset(rng),
         _ => change_one_byte(rng, &mut pair.hgv),
     }
 }
 
 fn right_pair(rng: &mut Rng, world: &World) -> Pair {
     let sender = world.actor(rng);
-    let reception = reception(rng);
+    let (reception, offset) = (reception(rng), offset(rng));
+    let shown = if rng.one_in(8) { edge(rng) } else { shown(&reception, offset) };
+    let around = either(rng, &reception, offset);
     let mode = rng.between(1, 2) as u64;
     let mut header = header(rng, &sender);
     if mode == 2 && !rng.one_in(10) {
         header.version = b"120001".to_vec();
     }
-    let mut lines = lines(rng, world, &sender, &reception, 8);
+    let mut lines = lines(rng, world, &sender, &around, 8);
     let (mut taken, rejected) = split(rng, &sender, &lines);
     if rng.one_in(6) {
         taken += smuggle(rng, world, &mut lines, &sender);
     }
     let hgv = hgv(&header, &lines);
-    let hgc = hgc(&hgv, &reception, taken, &rejected);
+    let hgc = hgc(&hgv, &shown, taken, &rejected);
     let only = if rng.one_in(12) { None } else { Some(&sender[..]) };
     let free = rng.below(9);
     let copy = register(&slots(rng, world, 6, only), free);
     let verdicts_len = lines.len() + rng.below(3);
-    Pair { mode, copy, hgv, hgc, verdicts_len }
+    Pair { mode, offset, copy, hgv, hgc, verdicts_len }
 }
 
 pub fn pair(seed: u64) -> Pair {

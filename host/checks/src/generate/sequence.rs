@@ -1,10 +1,12 @@
-//! Imports by several providers into one register, one after the other, and sweeps of it in between.
+//! Imports by several providers into one register, one after the other, each by the provider's clock, and sweeps of it in
+//! between.
 
 use super::case::{lines, repeat_held};
 use super::damage::{change_one_byte, wrong_mode, wrong_time};
 use super::file::{header, hgv, register, slots};
 use super::full::{full_list, pans_of};
 use super::line::reception;
+use super::offset::{edge, either, wrong_offset, Clocks};
 use super::rng::Rng;
 use super::sweeping::time;
 use super::world::World;
@@ -15,6 +17,7 @@ use crate::plain;
 pub struct Import {
     pub mode: u64,
     pub reception: Vec<u8>,
+    pub offset: i64,
     pub rows: Vec<u8>,
     pub hgv: Vec<u8>,
     pub hgc_len: usize,
@@ -44,8 +47,8 @@ impl Event {
     /// The register after it.
     fn happen(&self, register: &mut [u8]) {
         match self {
-            Event::Import(Import { mode, reception, rows, hgv, hgc_len }) => {
-                plain::import(*mode, reception, register, rows, hgv, &mut vec![0; *hgc_len]);
+            Event::Import(Import { mode, reception, offset, rows, hgv, hgc_len }) => {
+                plain::import(*mode, reception, *offset, register, rows, hgv, &mut vec![0; *hgc_len]);
             }
             Event::Sweep(time) => {
                 plain::sweep(register, time);
@@ -55,41 +58,44 @@ impl Event {
 }
 
 /// A full list of a sender who has records has mostly their accounts, or some of them.
-fn import(rng: &mut Rng, world: &World, register: &[u8]) -> Import {
+fn import(rng: &mut Rng, world: &World, clocks: &mut Clocks, register: &[u8]) -> Import {
     let sender = world.actor(rng);
-    let reception = reception(rng);
+    let reception = if rng.one_in(20) { edge(rng) } else { reception(rng) };
+    let offset = clocks.next(rng, &sender);
+    let around = either(rng, &reception, offset);
     let mut header = header(rng, &sender);
     let mode = rng.between(1, 2) as u64;
     if mode == 2 && !rng.one_in(10) {
         header.version = b"120001".to_vec();
     }
     let mut lines = match mode == 2 && pans_of(register, &sender).len() > 1 && !rng.one_in(3) {
-        true => full_list(rng, world, &sender, &reception, register),
-        false => lines(rng, world, &sender, &reception, 7),
+        true => full_list(rng, world, &sender, &around, register),
+        false => lines(rng, world, &sender, &around, 7),
     };
     if mode == 1 {
         repeat_held(rng, &mut lines, register, &sender);
     }
     let hgc_len = 174 + 130 * lines.len();
-    Import { mode, reception, rows: world.bytes(), hgv: hgv(&header, &lines), hgc_len }
+    Import { mode, reception, offset, rows: world.bytes(), hgv: hgv(&header, &lines), hgc_len }
 }
 
 /// A few imports that are refused, each for one thing.
 fn spoil(rng: &mut Rng, import: &mut Import) {
-    match rng.below(5) {
+    match rng.below(6) {
         0 => import.mode = wrong_mode(rng),
         1 => import.reception = wrong_time(rng),
         2 => import.rows.truncate(import.rows.len() - 1),
         3 => change_one_byte(rng, &mut import.hgv),
+        4 => import.offset = wrong_offset(rng),
         _ => import.hgc_len = rng.below(import.hgc_len),
     }
 }
 
-fn event(rng: &mut Rng, world: &World, register: &[u8]) -> Event {
+fn event(rng: &mut Rng, world: &World, clocks: &mut Clocks, register: &[u8]) -> Event {
     if rng.one_in(4) {
         return Event::Sweep(if rng.one_in(6) { wrong_time(rng) } else { time(rng, register) });
     }
-    let mut import = import(rng, world, register);
+    let mut import = import(rng, world, clocks, register);
     if rng.one_in(6) {
         spoil(rng, &mut import);
     }
@@ -111,9 +117,9 @@ pub fn start(seed: u64) -> Vec<u8> {
 pub fn sequence(seed: u64) -> Vec<Event> {
     let mut rng = Rng::new(seed);
     let mut world = World::new(&mut rng);
-    let (mut events, mut register) = (Vec::new(), start(seed));
+    let (mut events, mut register, mut clocks) = (Vec::new(), start(seed), Clocks::default());
     for _ in 0..rng.between(1, 18) {
-        let event = event(&mut rng, &world, &register);
+        let event = event(&mut rng, &world, &mut clocks, &register);
         event.happen(&mut register);
         events.push(event);
         if rng.one_in(8) && world.rows.len() > 1 {

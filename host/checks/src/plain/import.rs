@@ -1,8 +1,7 @@
 //! The import: its stops, and what it writes.
 
 use super::register::{self, after, in_order, InOrder, Stamp};
-use super::words::is_real_time;
-use super::{confirmation, hgv, line, rows, verdict};
+use super::{clock, confirmation, hgv, line, rows, verdict};
 use graftspindle::raw::Imported;
 
 /// A stop returns its number and zero for the rest.
@@ -14,6 +13,7 @@ pub fn import_stopped(number: u64) -> Imported {
 pub fn import_stop_to_32(
     mode: u64,
     reception: &[u8],
+    offset: i64,
     register: &[u8],
     rows: &[u8],
     hgv: &[u8],
@@ -22,7 +22,7 @@ pub fn import_stop_to_32(
     if mode != 1 && mode != 2 {
         return 21;
     }
-    if !is_real_time(reception) {
+    if clock::local(reception, offset).is_none() {
         return 22;
     }
     if !in_order(register) {
@@ -44,18 +44,26 @@ fn import_stop_25_to_32(mode: u64, rows: &[u8], hgv: &[u8]) -> u64 {
 }
 
 /// The number of the rule each line breaks first, 0 for a taken one; none where one of the
-/// stops 21 to 32 is given. Verdicts use neither mode nor reception.
+/// stops 21 to 32 is given. Verdicts use neither mode nor reception nor offset.
 pub fn rules_broken(register: &[u8], rows: &[u8], hgv: &[u8]) -> Vec<u8> {
     let reception = b"20250310050000";
-    if import_stop_to_32(1, reception, register, rows, hgv, in_order) != 0 {
+    if import_stop_to_32(1, reception, 0, register, rows, hgv, in_order) != 0 {
         return Vec::new();
     }
     let used = register::used_slots(register);
     verdict::rules(&hgv::lines(hgv), hgv::sender(hgv), rows, &used)
 }
 
-pub fn import(mode: u64, reception: &[u8], register: &mut [u8], rows: &[u8], hgv: &[u8], hgc: &mut [u8]) -> Imported {
-    let stop = import_stop_to_32(mode, reception, register, rows, hgv, in_order);
+pub fn import(
+    mode: u64,
+    reception: &[u8],
+    offset: i64,
+    register: &mut [u8],
+    rows: &[u8],
+    hgv: &[u8],
+    hgc: &mut [u8],
+) -> Imported {
+    let stop = import_stop_to_32(mode, reception, offset, register, rows, hgv, in_order);
     if stop != 0 {
         return import_stopped(stop);
     }
@@ -65,7 +73,12 @@ pub fn import(mode: u64, reception: &[u8], register: &mut [u8], rows: &[u8], hgv
     let taken = verdict::taken_lines(&lines, &verdicts);
     let stamp = Stamp { list: hgv::list_sequence(hgv), reception };
     let after = after(mode, register, sender, &taken, &stamp, register::after_mode_1);
-    finish_import(mode, reception, register, hgv, hgc, &verdicts, &after)
+    finish_import(mode, &shown(reception, offset), register, hgv, hgc, &verdicts, &after)
+}
+
+/// The reception as the HGC shows it; 22 lets none pass that cannot be shown.
+pub fn shown(reception: &[u8], offset: i64) -> Vec<u8> {
+    clock::local(reception, offset).unwrap_or_default()
 }
 
 /// 35: "In mode 2, if twice the taken lines is less than the records held for the sender, stop." Held is what the register
@@ -75,10 +88,10 @@ fn is_35(mode: u64, register: &[u8], sender: &[u8], taken: usize) -> bool {
     mode == 2 && 2 * taken < held
 }
 
-/// 35, 33 and 34, in this order, are known before the first byte is written.
+/// 35, 33 and 34, in this order, are known before the first byte is written. The time is the one that the HGC shows.
 pub fn finish_import(
     mode: u64,
-    reception: &[u8],
+    shown: &[u8],
     register: &mut [u8],
     hgv: &[u8],
     hgc: &mut [u8],
@@ -92,7 +105,7 @@ pub fn finish_import(
     if register::is_33(register, after) {
         return import_stopped(33);
     }
-    let confirmation = confirmation::confirmation(hgv, reception, verdicts);
+    let confirmation = confirmation::confirmation(hgv, shown, verdicts);
     if hgc.len() < confirmation.len() {
         return import_stopped(34);
     }

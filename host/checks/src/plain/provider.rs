@@ -2,7 +2,7 @@
 
 use super::pairing::{self, Clause};
 use super::register::{self, after, in_order, InOrder, Stamp};
-use super::{confirmation, hgv, line};
+use super::{clock, confirmation, hgv, line};
 use graftspindle::raw::Counted;
 
 /// A stop returns its number and zero for the rest.
@@ -74,12 +74,17 @@ fn is_51(copy: &[u8], hgv: &[u8]) -> bool {
     register::used_slots(copy).iter().any(|slot| line::actor(slot) != hgv::sender(hgv))
 }
 
-/// "It uses the HGC's reception", and the HGC's list.
-pub fn stamp_told(hgc: &[u8]) -> Stamp<'_> {
-    Stamp { list: confirmation::list_sequence(hgc), reception: confirmation::reception(hgc) }
+/// "It uses the HGC's reception", in UTC. None is 52.
+pub fn reception_told(hgc: &[u8], offset: i64) -> Option<Vec<u8>> {
+    clock::utc(confirmation::reception(hgc), offset)
 }
 
-pub fn update(mode: u64, copy: &mut [u8], hgv: &[u8], hgc: &[u8]) -> Counted {
+/// That, and the HGC's list.
+pub fn stamp_told<'a>(hgc: &'a [u8], reception: &'a [u8]) -> Stamp<'a> {
+    Stamp { list: confirmation::list_sequence(hgc), reception }
+}
+
+pub fn update(mode: u64, offset: i64, copy: &mut [u8], hgv: &[u8], hgc: &[u8]) -> Counted {
     let stop = update_stop_to_32(mode, copy, hgv, in_order);
     if stop != 0 {
         return count_stopped(stop);
@@ -87,10 +92,13 @@ pub fn update(mode: u64, copy: &mut [u8], hgv: &[u8], hgc: &[u8]) -> Counted {
     if !pairing::clauses_of_52(hgv, hgc).is_empty() {
         return count_stopped(52);
     }
+    let Some(reception) = reception_told(hgc, offset) else {
+        return count_stopped(52);
+    };
     let lines = hgv::lines(hgv);
     let marks = pairing::taken_marks(&lines, &confirmation::lines(hgc));
     let taken = pairing::marked(&lines, &marks, true);
-    let stamp = stamp_told(hgc);
+    let stamp = stamp_told(hgc, &reception);
     let after = after(mode, copy, hgv::sender(hgv), &taken, &stamp, register::after_mode_1);
     finish_update(copy, &marks, &after)
 }

@@ -1,4 +1,6 @@
-//! The words the definition uses for texts: digits, zeros, blanks, real times.
+//! The words the definition uses for texts: digits, zeros, blanks, real times and their seconds.
+
+use graftspindle::raw::Timed;
 
 pub const LF: u8 = 10;
 pub const BLANK: u8 = b' ';
@@ -61,7 +63,7 @@ fn is_leap(year: u64) -> bool {
     (year.is_multiple_of(4) && !year.is_multiple_of(100)) || year.is_multiple_of(400)
 }
 
-fn days_of(year: u64, month: u64) -> u64 {
+pub fn days_of(year: u64, month: u64) -> u64 {
     match month {
         2 if is_leap(year) => 29,
         2 => 28,
@@ -83,6 +85,26 @@ pub fn is_real_time(text: &[u8]) -> bool {
         && hour <= 23
         && minute <= 59
         && second <= 59
+}
+
+/// The Julian day number of a Gregorian date, after Fliegel and Van Flandern: the year begins in March, so that the leap day is
+/// its last. Every fourth year has one; of four centuries three lack it.
+fn julian_day(year: u64, month: u64, day: u64) -> u64 {
+    let (years, months) = if month <= 2 { (year + 4799, month + 10) } else { (year + 4800, month - 2) };
+    1461 * years / 4 + 367 * months / 12 + day - 3 * ((years + 100) / 100) / 4 - 32_075
+}
+
+/// That of 0001-01-01.
+const FIRST_DAY: u64 = 1_721_426;
+
+/// "The seconds since 00010101000000 besides yes or no": 22 and none where the time is not real.
+pub fn seconds(text: &[u8]) -> Timed {
+    if !is_real_time(text) {
+        return Timed { number: 22, seconds: 0 };
+    }
+    let part = |from, to| number_of(positions(text, from, to)).unwrap_or(0);
+    let days = julian_day(part(1, 4), part(5, 6), part(7, 8)) - FIRST_DAY;
+    Timed { number: 0, seconds: ((days * 24 + part(9, 10)) * 60 + part(11, 12)) * 60 + part(13, 14) }
 }
 
 /// "the first eight digits of one": there is one calendar only.

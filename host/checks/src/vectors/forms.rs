@@ -2,7 +2,7 @@
 
 use super::blocks::{change, field, number, rest, LINE};
 use super::{given, Answer, Samples};
-use crate::plain::words::{is_digit, is_real_date, is_real_time, leading};
+use crate::plain::words::{is_digit, is_real_date, is_real_time, leading, seconds};
 use crate::plain::{hgv, line, register, rows, verdict};
 
 const SENDER: &[u8] = b"900123";
@@ -19,6 +19,12 @@ fn is_luhn(f: &[u8]) -> bool {
 fn is_separator(f: &[u8]) -> bool {
     let k = leading(field(f, 1, 10), line::is_plate_character);
     line::separator_right(rest(f, 11), k as u64)
+}
+
+/// The number, and the seconds behind it.
+fn of_seconds(f: &[u8]) -> Option<Answer> {
+    let done = seconds(f);
+    Some(Answer { first: done.number.to_string(), behind: format!(" {}", done.seconds).into_bytes() })
 }
 
 /// The reason of a line by itself, 0 for none.
@@ -66,6 +72,7 @@ pub fn answer(samples: &Samples, tag: &[u8], f: &[u8]) -> Option<Answer> {
         b"separate" => is_separator(f),
         b"time    " => is_real_time(f),
         b"date    " => is_real_date(f),
+        b"seconds " => return of_seconds(f),
         b"write   " | b"account " | b"written " | b"kept    " | b"answered" => return given::answer(samples, tag, f),
         b"copies  " => return given::of_copies(samples, f),
         _ => return of_line(samples, tag, f),

@@ -1,5 +1,6 @@
 //! The vectors on registers, lookups, sweeps, imports and the provider's side; of these the import: mode, reception, rows, register
 //! and HGV by their letters, the length of the HGC's buffer, the HGV's where it is not its own, and a place of the HGV changed.
+//! `local` and `utc` have the offset in front of an import and of an update: a sign, four digits of minutes, and a blank.
 
 use super::answer::{kept, slots};
 use super::blocks::{change, field, letters, number, rest, sent};
@@ -18,14 +19,14 @@ fn is_kept(block: &[u8]) -> bool {
     block.iter().all(|&b| b == UNWRITTEN)
 }
 
-fn of_import(samples: &Samples, f: &[u8]) -> Option<Answer> {
+fn of_import(samples: &Samples, offset: i64, f: &[u8]) -> Option<Answer> {
     let hgv = sent(samples.hgv(field(f, 25, 29)), field(f, 36, 39), |hgv| change(hgv, rest(f, 41)));
     let before = samples.slots(field(f, 20, 23));
     let rows = samples.laid(24, letters(field(f, 18, 18), 1));
     let mut register = before.clone();
     let mut hgc = vec![UNWRITTEN; number(field(f, 31, 34)).min(704)];
     let mode = number(field(f, 1, 1)) as u64;
-    let done = plain::import(mode, field(f, 3, 16), &mut register, &rows, &hgv, &mut hgc);
+    let done = plain::import(mode, field(f, 3, 16), offset, &mut register, &rows, &hgv, &mut hgc);
     let mut behind = format!("{} {}", counted(done.taken, done.rejected), done.length).into_bytes();
     let length = done.length as usize;
     if length == 0 {
@@ -40,13 +41,25 @@ fn of_import(samples: &Samples, f: &[u8]) -> Option<Answer> {
     Some(Answer { first: done.number.to_string(), behind })
 }
 
+/// The offset that stands in front.
+fn offset(f: &[u8]) -> i64 {
+    let minutes = number(field(f, 2, 5)) as i64;
+    if field(f, 1, 1) == b"-" {
+        -minutes
+    } else {
+        minutes
+    }
+}
+
 pub fn answer(samples: &Samples, tag: &[u8], f: &[u8]) -> Option<Answer> {
     match tag {
-        b"import  " => of_import(samples, f),
+        b"import  " => of_import(samples, 0, f),
+        b"local   " => of_import(samples, offset(f), rest(f, 7)),
         b"many    " => many::of_lines(samples, f),
         b"slots   " => many::of_slots(f),
         b"readback" => pairs::of_read(samples, f),
-        b"update  " => pairs::of_update(samples, f),
+        b"update  " => pairs::of_update(samples, 0, f),
+        b"utc     " => pairs::of_update(samples, offset(f), rest(f, 7)),
         b"sweep   " => sweeps::of_sweep(samples, f),
         b"gone    " => sweeps::of_gone(samples, f),
         _ => found::answer(samples, tag, f),

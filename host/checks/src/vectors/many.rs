@@ -23,7 +23,7 @@ pub fn of_lines(samples: &Samples, f: &[u8]) -> Option<Answer> {
     hgv.extend(samples.laid(64, b"T"));
     let (mut register, mut hgc) = (vec![0; SLOT], vec![0; 174 + 8192 * 130]);
     let rows = b"97990012      0816900123";
-    let done = plain::import(1, b"20250310050000", &mut register, rows, &hgv, &mut hgc);
+    let done = plain::import(1, b"20250310050000", 0, &mut register, rows, &hgv, &mut hgc);
     let behind = format!("{} {}", counted(done.taken, done.rejected), done.length).into_bytes();
     Some(Answer { first: done.number.to_string(), behind })
 }

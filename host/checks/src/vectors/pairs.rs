@@ -39,11 +39,11 @@ pub fn of_read(samples: &Samples, f: &[u8]) -> Option<Answer> {
     Some(Answer { first: done.number.to_string(), behind })
 }
 
-pub fn of_update(samples: &Samples, f: &[u8]) -> Option<Answer> {
+pub fn of_update(samples: &Samples, offset: i64, f: &[u8]) -> Option<Answer> {
     let (hgv, hgc) = laid(samples, rest(f, 8));
     let before = samples.slots(field(f, 3, 6));
     let mut copy = before.clone();
-    let done = plain::update(number(field(f, 1, 1)) as u64, &mut copy, &hgv, &hgc);
+    let done = plain::update(number(field(f, 1, 1)) as u64, offset, &mut copy, &hgv, &hgc);
     let mut behind = counted(done.taken, done.rejected).into_bytes();
     if done.number == 0 {
         behind.push(b'\n');

@@ -2,26 +2,36 @@
 
 use crate::common::*;
 use graftspindle_checks::generate::file::used;
-use graftspindle_checks::generate::{case, pair, question, sweeping, Case};
+use graftspindle_checks::generate::{case, pair, question, sweeping};
+use graftspindle_checks::plain::clock::local;
 use graftspindle_checks::plain::register::SLOT;
-use graftspindle_checks::plain::{clauses_of_52, rules_broken, CLAUSES};
+use graftspindle_checks::plain::{clauses_of_52, rules_broken, seconds, CLAUSES};
 use std::cmp::Ordering::{Equal, Greater, Less};
 
-fn run_case(engine: &Engine, case: &Case) -> Outcome {
-    run(engine, case.mode, &case.reception, &case.register, &case.rows, &case.hgv, case.hgc_len)
+/// Why a time and its offset are refused.
+fn why(time: &[u8], offset: i64) -> &'static str {
+    match (seconds(time).number, local(R0, offset)) {
+        (22, _) => "no such time",
+        (_, None) => "no such offset",
+        _ => "no such year",
+    }
 }
 
 #[test]
 fn imports() {
     let (mut numbers, mut reasons, mut rules) = (Counts::new(), Counts::new(), Counts::new());
-    let mut heavy = Counts::new();
+    let (mut heavy, mut times, mut clocks) = (Counts::new(), Counts::new(), Counts::new());
     for seed in 0..SEEDS {
         let case = case(seed);
-        let outcome = of_all(|engine| run_case(engine, &case));
+        let outcome = of_all(|engine| run_given(engine, &case.register, &Given::of_case(&case)));
         count(&mut numbers, outcome.answer.number);
+        if outcome.answer.number == 22 {
+            count(&mut times, why(&case.reception, case.offset));
+        }
         if outcome.answer.number != 0 {
             continue;
         }
+        count(&mut clocks, case.offset.cmp(&0));
         count(&mut heavy, case.register.chunks(SLOT).any(over_limit));
         assert!(of_all(|engine| (engine.in_order)(&outcome.register)), "seed {seed}");
         let told = of_all(|engine| verdicts(engine, &case.hgv, &outcome));
@@ -33,6 +43,8 @@ fn imports() {
     assert_reached("verdicts", &reasons, vec![0, 1, 2, 3, 4, 5, 6, 8, 9, 12]);
     assert_reached("rules L1 to L12", &rules, (0..=12).collect());
     assert_reached("registers with a record over a limit of weight", &heavy, vec![false, true]);
+    assert_reached("causes of 22", &times, vec!["no such time", "no such offset", "no such year"]);
+    assert_reached("local time before UTC, the same, behind it", &clocks, vec![Less, Equal, Greater]);
 }
 
 #[test]
@@ -76,17 +88,20 @@ fn reading_back() {
 #[test]
 fn updates() {
     let (mut numbers, mut alone, mut heavy, mut thin) = (Counts::new(), Counts::new(), Counts::new(), Counts::new());
+    let mut by_clock = Counts::new();
     for seed in 0..SEEDS {
         let p = pair(seed);
         let (answer, after) = of_all(|engine| {
             let mut copy = p.copy.clone();
-            let answer = (engine.update)(p.mode, &mut copy, &p.hgv, &p.hgc);
+            let answer = (engine.update)(p.mode, p.offset, &mut copy, &p.hgv, &p.hgc);
             assert!(answer.number == 0 || copy == p.copy, "seed {seed}");
             (answer, copy)
         });
         count(&mut numbers, answer.number);
-        if let (52, [clause]) = (answer.number, &clauses_of_52(&p.hgv, &p.hgc)[..]) {
-            count(&mut alone, *clause);
+        match (answer.number, &clauses_of_52(&p.hgv, &p.hgc)[..]) {
+            (52, []) => count(&mut by_clock, why(&p.hgc[32..46], p.offset)),
+            (52, [clause]) => count(&mut alone, *clause),
+            _ => (),
         }
         if (p.mode, answer.number) == (2, 0) {
             let held = p.copy.chunks(SLOT).filter(|slot| slot[0] == b'1').count() as u64;
@@ -100,6 +115,7 @@ fn updates() {
     let expected = vec![0, 21, 23, 25, 26, 27, 28, 29, 30, 31, 32, 33, 51, 52];
     assert_reached("update's numbers", &numbers, expected);
     assert_reached("update's clauses of 52, alone", &alone, CLAUSES.to_vec());
+    assert_reached("52 by the offset", &by_clock, vec!["no such offset", "no such year"]);
 }
 
 /// What went of a register: nothing of it, some of its records, or all.

@@ -4,32 +4,41 @@ use graftspindle::raw;
 use graftspindle::sizes::SLOT;
 use graftspindle_checks::{plain, sample};
 
+/// Behind UTC, so that a sign that is lost shows; and the sample's reception then.
+const OFFSET: i64 = -90;
+const LOCAL: &[u8] = b"20250310033000";
+
 /// A register of four slots after an import of three lines, by both.
 fn imported() -> Vec<u8> {
     let (mut register, mut hgc) = (vec![0; 4 * SLOT], vec![7; 300]);
     let (mut other, mut told) = (register.clone(), hgc.clone());
     let (rows, hgv) = (sample::row(), sample::hgv(3));
-    let done = raw::import(1, sample::RECEPTION, &mut register, &rows, &hgv, &mut hgc);
-    let plain = plain::import(1, sample::RECEPTION, &mut other, &rows, &hgv, &mut told);
+    let done = raw::import(1, sample::RECEPTION, OFFSET, &mut register, &rows, &hgv, &mut hgc);
+    let plain = plain::import(1, sample::RECEPTION, OFFSET, &mut other, &rows, &hgv, &mut told);
     assert_eq!((done.number, done.taken, done.rejected, done.length), (0, 3, 0, 174));
     assert_eq!((plain.number, plain.taken, plain.rejected, plain.length), (0, 3, 0, 174));
-    assert!(register == other && hgc == told);
+    assert!(register == other && hgc == told && &hgc[32..46] == LOCAL);
     register
 }
 
 /// The HGC of the same import.
 fn confirmed() -> Vec<u8> {
     let (mut register, mut hgc) = (vec![0; 4 * SLOT], vec![7; 174]);
-    raw::import(1, sample::RECEPTION, &mut register, &sample::row(), &sample::hgv(3), &mut hgc);
+    raw::import(1, sample::RECEPTION, OFFSET, &mut register, &sample::row(), &sample::hgv(3), &mut hgc);
     hgc
 }
 
 #[test]
 fn a_stop_writes_nothing() {
-    let (mut register, mut hgc) = (vec![0; SLOT], vec![7; 173]);
-    let done = raw::import(3, sample::RECEPTION, &mut register, &sample::row(), &sample::hgv(3), &mut hgc);
-    assert_eq!((done.number, done.taken, done.rejected, done.length), (21, 0, 0, 0));
-    assert!(register == vec![0; SLOT] && hgc == vec![7; 173]);
+    for (mode, offset, number) in
+        [(3, 0, 21), (3, i64::MAX, 21), (1, 841, 22), (1, -721, 22), (1, i64::MIN, 22), (1, i64::MAX, 22), (1, 840, 33)]
+    {
+        let (mut register, mut hgc) = (vec![0; SLOT], vec![7; 173]);
+        let done =
+            raw::import(mode, sample::RECEPTION, offset, &mut register, &sample::row(), &sample::hgv(3), &mut hgc);
+        assert_eq!((done.number, done.taken, done.rejected, done.length), (number, 0, 0, 0));
+        assert!(register == vec![0; SLOT] && hgc == vec![7; 173]);
+    }
 }
 
 #[test]
@@ -70,10 +79,14 @@ fn read_back() {
 #[test]
 fn update() {
     let (hgv, hgc, mut copy) = (sample::hgv(3), confirmed(), vec![0; 4 * SLOT]);
-    let refused = raw::update(3, &mut copy, &hgv, &hgc);
-    assert_eq!((refused.number, refused.taken, refused.rejected), (21, 0, 0));
-    assert!(copy == vec![0; 4 * SLOT]);
-    let done = raw::update(2, &mut copy, &hgv, &hgc);
+    for (mode, offset, number) in
+        [(3, 0, 21), (0, i64::MIN, 21), (1, 841, 52), (1, -721, 52), (2, i64::MIN, 52), (2, i64::MAX, 52)]
+    {
+        let refused = raw::update(mode, offset, &mut copy, &hgv, &hgc);
+        assert_eq!((refused.number, refused.taken, refused.rejected), (number, 0, 0));
+        assert!(copy == vec![0; 4 * SLOT]);
+    }
+    let done = raw::update(2, OFFSET, &mut copy, &hgv, &hgc);
     assert_eq!((done.number, done.taken, done.rejected), (0, 3, 0));
     assert!(copy == imported());
 }
@@ -110,6 +123,33 @@ fn sweep() {
     assert_eq!(swept(&register[1..], sample::RECEPTION), (23, 0, register[1..].to_vec()));
 }
 
+#[test]
+fn seconds() {
+    let told = |time: &[u8]| {
+        let done = raw::seconds(time);
+        assert_eq!(done, plain::seconds(time));
+        (done.number, done.seconds)
+    };
+    assert_eq!(told(b"00010101000000"), (0, 0));
+    assert_eq!(told(sample::RECEPTION), (0, 63_877_179_600));
+    assert_eq!(told(b"99991231235959"), (0, 315_537_897_599));
+    assert_eq!(told(b"20250310240000"), (22, 0));
+    assert_eq!(told(b""), (22, 0));
+}
+
+/// The linked libraries have the form that is declared; of another one a call says so and which command makes them anew.
+#[test]
+fn revision() {
+    assert_eq!((raw::revision(), raw::REVISION), (2, 2));
+    raw::must_be_declared(2);
+    for other in [0, 1, 3] {
+        let fault = std::panic::catch_unwind(|| raw::must_be_declared(other)).expect_err("another form");
+        let words = fault.downcast_ref::<String>().expect("a text");
+        let told = format!("have revision {other} of what Rust calls, and revision 2 is declared");
+        assert!(words.contains(&told) && words.contains("host/build"), "{words}");
+    }
+}
+
 /// The largest files and registers, on a thread with a stack of 128 KiB.
 #[test]
 fn small_stack() {
@@ -117,10 +157,10 @@ fn small_stack() {
         let (hgv, rows) = (sample::hgv(8192), sample::row());
         let (mut register, mut copy, mut hgc, mut verdicts) =
             (vec![0; 8192 * SLOT], vec![0; 8192 * SLOT], vec![0; 174], vec![1; 8192]);
-        let taken = raw::import(2, sample::RECEPTION, &mut register, &rows, &hgv, &mut hgc).taken;
-        let again = raw::import(1, sample::RECEPTION, &mut register, &rows, &hgv, &mut hgc).taken;
+        let taken = raw::import(2, sample::RECEPTION, OFFSET, &mut register, &rows, &hgv, &mut hgc).taken;
+        let again = raw::import(1, sample::RECEPTION, OFFSET, &mut register, &rows, &hgv, &mut hgc).taken;
         let read = raw::read_back(&hgv, &hgc, &mut verdicts).taken;
-        let updated = raw::update(1, &mut copy, &hgv, &hgc).taken;
+        let updated = raw::update(1, OFFSET, &mut copy, &hgv, &hgc).taken;
         let swept = raw::sweep(&mut copy, sample::RECEPTION).removed;
         (taken, again, read, updated, swept, copy == register)
     };

@@ -2,6 +2,7 @@
 
 use graftspindle::raw::{Counted, Imported, List, Swept, Written};
 pub use graftspindle_checks::engines::{Engine, ENGINES};
+use graftspindle_checks::generate::{Case, Import};
 use graftspindle_checks::plain::line::{breaks_l10, record_rules_hold};
 use graftspindle_checks::plain::register::SLOT;
 use graftspindle_checks::sample;
@@ -101,7 +102,30 @@ pub struct Outcome {
     pub hgc: Vec<u8>,
 }
 
-/// Runs an import into a buffer of EE and checks what every import owes its lent blocks.
+/// What is handed over beside a register, and the length of the HGC's buffer.
+#[derive(Clone, Copy)]
+pub struct Given<'a> {
+    pub mode: u64,
+    pub reception: &'a [u8],
+    pub offset: i64,
+    pub rows: &'a [u8],
+    pub hgv: &'a [u8],
+    pub room: usize,
+}
+
+impl<'a> Given<'a> {
+    pub fn of_case(case: &'a Case) -> Given<'a> {
+        let Case { mode, reception, offset, rows, hgv, hgc_len, .. } = case;
+        Given { mode: *mode, reception, offset: *offset, rows, hgv, room: *hgc_len }
+    }
+
+    pub fn of_import(import: &'a Import) -> Given<'a> {
+        let Import { mode, reception, offset, rows, hgv, hgc_len } = import;
+        Given { mode: *mode, reception, offset: *offset, rows, hgv, room: *hgc_len }
+    }
+}
+
+/// An import whose HGC shows UTC.
 pub fn run(
     engine: &Engine,
     mode: u64,
@@ -111,9 +135,14 @@ pub fn run(
     hgv: &[u8],
     hgc_len: usize,
 ) -> Outcome {
-    let mut after = register.to_vec();
-    let mut buffer = vec![0xEE; hgc_len];
-    let answer = (engine.import)(mode, reception, &mut after, rows, hgv, &mut buffer);
+    run_given(engine, register, &Given { mode, reception, offset: 0, rows, hgv, room: hgc_len })
+}
+
+/// Runs an import into a buffer of EE and checks what every import owes its lent blocks.
+pub fn run_given(engine: &Engine, register: &[u8], given: &Given) -> Outcome {
+    let Given { mode, reception, offset, rows, hgv, room } = *given;
+    let (mut after, mut buffer) = (register.to_vec(), vec![0xEE; room]);
+    let answer = (engine.import)(mode, reception, offset, &mut after, rows, hgv, &mut buffer);
     let length = answer.length as usize;
     assert!(buffer[length..].iter().all(|&b| b == 0xEE), "{}: bytes beyond the HGC", engine.name);
     if answer.number != 0 {

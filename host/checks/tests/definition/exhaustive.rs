@@ -96,7 +96,7 @@ fn agree(register: &[u8], rows: &[u8], file: &[u8], told: &[u8]) -> [u64; 5] {
         let mut verdicts = vec![0xEE; 4];
         let back = (e.read_back)(file, told, &mut verdicts);
         let mut copy = free(2);
-        let updated = (e.update)(2, &mut copy, file, told);
+        let updated = (e.update)(2, 0, &mut copy, file, told);
         (imported, pan, plate, (back, verdicts), (updated, copy))
     });
     let (imported, pan, plate, (back, _), (updated, _)) = answers;

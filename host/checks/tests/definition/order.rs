@@ -5,6 +5,7 @@ use crate::common::*;
 struct Input {
     mode: u64,
     reception: Vec<u8>,
+    offset: i64,
     register: Vec<u8>,
     rows: Vec<u8>,
     hgv: Vec<u8>,
@@ -17,6 +18,7 @@ fn right(room: usize) -> Input {
     Input {
         mode: 1,
         reception: R0.to_vec(),
+        offset: 0,
         register: free(1),
         rows: ROW0.to_vec(),
         hgv: hgv(&[x()]),
@@ -53,8 +55,33 @@ fn apply(number: u64, input: &mut Input) {
     }
 }
 
+/// What puts a fault into an input.
+type Apply = fn(u64, &mut Input);
+
+/// 22, and the update's 52, by an offset out of range.
+fn apply_by_offset(number: u64, input: &mut Input) {
+    match number {
+        22 | 52 => input.offset = 841,
+        other => apply(other, input),
+    }
+}
+
+/// The same by a year that is none, by the clock that is not given.
+fn apply_by_year(number: u64, input: &mut Input) {
+    match number {
+        22 => (input.reception, input.offset) = (b"99991231235959".to_vec(), 1),
+        52 => {
+            input.hgc[32..46].copy_from_slice(b"00010101000000");
+            input.offset = 1;
+        }
+        other => apply(other, input),
+    }
+}
+
+const WAYS: [Apply; 3] = [apply, apply_by_offset, apply_by_year];
+
 /// The later fault is put in first, so that the earlier one stays whole.
-fn assert_order(order: &[u64], room: usize, answer: impl Fn(Input) -> u64) {
+fn assert_order(order: &[u64], room: usize, apply: Apply, answer: impl Fn(Input) -> u64) {
     assert_eq!(answer(right(room)), 0);
     for (place, &first) in order.iter().enumerate() {
         for second in order[place..].iter() {
@@ -71,9 +98,11 @@ fn assert_order(order: &[u64], room: usize, answer: impl Fn(Input) -> u64) {
 #[test]
 fn import_order() {
     let order = [21, 22, 23, 24, 25, 26, 27, 28, 29, 30, 31, 32, 35, 33, 34];
-    for engine in ENGINES {
-        assert_order(&order, 174, |i| {
-            run(engine, i.mode, &i.reception, &i.register, &i.rows, &i.hgv, i.room).answer.number
+    for (engine, apply) in ENGINES.iter().flat_map(|engine| WAYS.map(|apply| (engine, apply))) {
+        assert_order(&order, 174, apply, |i| {
+            let Input { mode, reception, offset, register, rows, hgv, room, .. } = &i;
+            let given = Given { mode: *mode, reception, offset: *offset, rows, hgv, room: *room };
+            run_given(engine, register, &given).answer.number
         });
     }
 }
@@ -81,7 +110,7 @@ fn import_order() {
 #[test]
 fn read_back_order() {
     for engine in ENGINES {
-        assert_order(&[25, 26, 27, 29, 30, 31, 32, 52, 53], 1, |i| {
+        assert_order(&[25, 26, 27, 29, 30, 31, 32, 52, 53], 1, apply, |i| {
             let mut block = vec![0xEE; i.room];
             let answer = (engine.read_back)(&i.hgv, &i.hgc, &mut block);
             assert!(answer.number == 0 || block.iter().all(|&b| b == 0xEE));
@@ -93,10 +122,10 @@ fn read_back_order() {
 #[test]
 fn update_order() {
     let order = [21, 23, 25, 26, 27, 28, 29, 51, 30, 31, 32, 52, 33];
-    for engine in ENGINES {
-        assert_order(&order, 0, |i| {
+    for (engine, apply) in ENGINES.iter().flat_map(|engine| WAYS.map(|apply| (engine, apply))) {
+        assert_order(&order, 0, apply, |i| {
             let mut copy = i.register.clone();
-            let answer = (engine.update)(i.mode, &mut copy, &i.hgv, &i.hgc);
+            let answer = (engine.update)(i.mode, i.offset, &mut copy, &i.hgv, &i.hgc);
             assert!(answer.number == 0 || copy == i.register);
             answer.number
         });
@@ -106,6 +135,6 @@ fn update_order() {
 #[test]
 fn sweep_order() {
     for engine in ENGINES {
-        assert_order(&[22, 23], 0, |i| sweep(engine, &i.register, &i.reception).0.number);
+        assert_order(&[22, 23], 0, apply, |i| sweep(engine, &i.register, &i.reception).0.number);
     }
 }

@@ -17,7 +17,7 @@ fn assert_52(lines: &[Vec<u8>], confirmation: &[u8], clause: Clause) {
     for engine in ENGINES {
         assert_eq!(read(engine, &file, confirmation, 9), (52, 0, 0, vec![0xEE; 9]), "{clause:?}");
         let mut copy = free(9);
-        let answer = (engine.update)(1, &mut copy, &file, confirmation);
+        let answer = (engine.update)(1, 0, &mut copy, &file, confirmation);
         assert_eq!((answer.number, answer.taken, answer.rejected), (52, 0, 0));
         assert_eq!(copy, free(9));
     }
@@ -139,7 +139,7 @@ fn old_pair() {
         let now = run_lines(engine, &free(2), &lines);
         assert_eq!((&now.hgc, verdicts(engine, &hgv(&lines), &now)), (&hgc(1, &[(&old, "12")]), vec![12, 0]));
         let mut copy = [slot(&old), free(1)].concat();
-        assert_eq!((engine.update)(1, &mut copy, &hgv(&lines), &now.hgc).number, 0);
+        assert_eq!((engine.update)(1, 0, &mut copy, &hgv(&lines), &now.hgc).number, 0);
         assert_eq!(copy, then);
     }
 }
@@ -157,7 +157,7 @@ fn verdict_block() {
 fn assert_update(mode: u64, copy: Vec<u8>, lines: &[Vec<u8>], told: &[u8], number: u64, after: &[u8]) {
     for engine in ENGINES {
         let mut block = copy.clone();
-        assert_eq!((engine.update)(mode, &mut block, &hgv(lines), told).number, number);
+        assert_eq!((engine.update)(mode, 0, &mut block, &hgv(lines), told).number, number);
         assert_eq!(block, after);
     }
 }

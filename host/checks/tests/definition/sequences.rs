@@ -34,7 +34,7 @@ fn apply(engine: &Engine, import: &Import, outcome: &Outcome, copy: &mut [u8]) {
     let told = verdicts(engine, &import.hgv, outcome);
     let Imported { taken, rejected, .. } = outcome.answer;
     assert_eq!(told.iter().filter(|&&verdict| verdict == 0).count() as u64, taken);
-    let applied = (engine.update)(import.mode, copy, &import.hgv, &outcome.hgc);
+    let applied = (engine.update)(import.mode, import.offset, copy, &import.hgv, &outcome.hgc);
     assert_eq!(applied, Counted { number: 0, taken, rejected });
 }
 
@@ -171,7 +171,7 @@ fn without_sweeps(engine: &Engine, seed: u64) -> Vec<&'static str> {
             continue;
         };
         let copy = copies.get_mut(import.sender()).expect("a copy for each sender");
-        match (engine.update)(import.mode, copy, &import.hgv, hgc).number {
+        match (engine.update)(import.mode, import.offset, copy, &import.hgv, hgc).number {
             0 => assert!(import.mode == 1 || *copy == copy_expected(&register, import.sender()), "seed {seed}"),
             number => {
                 assert_eq!(number, 33, "seed {seed}");
@@ -218,7 +218,7 @@ fn late(engine: &Engine, copy: &[u8], time: &[u8], import: &Import, outcome: &Ou
     let is_named = |slot: &[u8]| used(&expected).any(|ours| pan_of(ours) == pan_of(slot));
     let is_apart = import.mode == 1 && import.reception[..] > *time && !used(copy).filter(goes).any(is_named);
     let mut behind = copy.to_vec();
-    let applied = (engine.update)(import.mode, &mut behind, &import.hgv, &outcome.hgc).number;
+    let applied = (engine.update)(import.mode, import.offset, &mut behind, &import.hgv, &outcome.hgc).number;
     if answer.removed == 0 {
         return None;
     }

@@ -70,7 +70,7 @@ fn one_line_more_is_25() {
 fn large_cases() {
     for seed in 0..5 {
         let c = large(seed);
-        let outcome = of_all(|e| run(e, c.mode, &c.reception, &c.register, &c.rows, &c.hgv, c.hgc_len));
+        let outcome = of_all(|e| run_given(e, &c.register, &Given::of_case(&c)));
         let (n, slots) = ((c.hgv.len() - 192) / 128, c.register.len() / SLOT);
         println!("mode {}, {n} lines, {slots} slots: {:?}", c.mode, outcome.answer);
         if outcome.answer.number == 0 {
@@ -78,7 +78,7 @@ fn large_cases() {
             let update = |copy: &[u8]| {
                 of_all(|e| {
                     let mut copy = copy.to_vec();
-                    ((e.update)(c.mode, &mut copy, &c.hgv, &outcome.hgc), copy)
+                    ((e.update)(c.mode, c.offset, &mut copy, &c.hgv, &outcome.hgc), copy)
                 })
             };
             let (applied, copy) = update(&free(slots));

@@ -81,7 +81,7 @@ fn by_the_reception() {
         assert_eq!(outcome.register, expected);
         assert_eq!(&outcome.hgc[32..46], late);
         let mut copy = free(1);
-        assert_eq!((engine.update)(1, &mut copy, &file, &outcome.hgc).number, 0);
+        assert_eq!((engine.update)(1, 0, &mut copy, &file, &outcome.hgc).number, 0);
         assert_eq!(copy, expected, "the HGC's list and reception");
     }
 }
@@ -92,7 +92,7 @@ fn in_a_copy() {
     let told = with(&hgc(1, &[(&y(), "04")]), 33, b"20250311000000");
     for engine in ENGINES {
         let mut copy = [before(&y()), before(&x())].concat();
-        let done = (engine.update)(1, &mut copy, &hgv(&[x(), y()]), &told);
+        let done = (engine.update)(1, 0, &mut copy, &hgv(&[x(), y()]), &told);
         assert_eq!(done, Counted { number: 0, taken: 1, rejected: 1 });
         assert_eq!(copy, [before(&y()), x(), stamp(LIST, b"20250311000000")].concat());
     }
@@ -103,7 +103,7 @@ fn numbers(stamp: &[u8]) -> [u64; 4] {
     let register = [&x(), stamp, &slot(y()), &free(1)].concat();
     of_all(|e| {
         let mut copy = register.clone();
-        let updated = (e.update)(1, &mut copy, &hgv(&[]), &hgc(0, &[])).number;
+        let updated = (e.update)(1, 0, &mut copy, &hgv(&[]), &hgc(0, &[])).number;
         let plate = (e.by_plate)(&register, b"XYZ123    ", b"NO ", R0).0;
         let imported = run(e, 1, R0, &register, ROW0, &hgv(&[]), 174).answer.number;
         [imported, (e.by_pan)(&register, PAN2).0, plate, updated]

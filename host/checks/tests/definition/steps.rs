@@ -2,7 +2,7 @@
 
 use crate::common::*;
 use graftspindle::raw::Swept;
-use graftspindle_checks::generate::{Event, Import};
+use graftspindle_checks::generate::Event;
 
 /// What an event answers, and the register that it leaves.
 #[derive(Debug, PartialEq)]
@@ -14,9 +14,7 @@ pub enum Step {
 impl Step {
     pub fn of(engine: &Engine, register: &[u8], event: &Event) -> Step {
         match event {
-            Event::Import(Import { mode, reception, rows, hgv, hgc_len }) => {
-                Step::Imported(run(engine, *mode, reception, register, rows, hgv, *hgc_len))
-            }
+            Event::Import(import) => Step::Imported(run_given(engine, register, &Given::of_import(import))),
             Event::Sweep(time) => {
                 let (answer, after) = sweep(engine, register, time);
                 Step::Swept(answer, after)

@@ -184,7 +184,7 @@ fn later_lists_bring_nothing_that_has_ended() {
             continue;
         }
         let after = swept(&c.register, &time);
-        let outcome = of_all(|e| run(e, c.mode, &c.reception, &after, &c.rows, &c.hgv, c.hgc_len));
+        let outcome = of_all(|e| run_given(e, &after, &Given::of_case(&c)));
         assert_eq!(of_all(|engine| sweep(engine, &outcome.register, &time)).0.removed, 0, "seed {seed}");
         count(&mut imported, (outcome.answer.number == 0, outcome.answer.taken > 0));
     }

@@ -161,7 +161,7 @@ fn none_in_an_update() {
             let lines = accounts(0, taken);
             let applied = of_all(|engine| {
                 let mut copy = slots(accounts(0, held));
-                let answer = (engine.update)(2, &mut copy, &hgv(&lines), &hgc(taken, &[]));
+                let answer = (engine.update)(2, 0, &mut copy, &hgv(&lines), &hgc(taken, &[]));
                 assert_eq!(copy, [slots(&lines), free(held - taken)].concat(), "{}", engine.name);
                 answer
             });
@@ -187,7 +187,7 @@ fn about_half() {
     let mut reached = Counts::new();
     for seed in 0..SEEDS / 4 {
         let c = case(seed);
-        let answered = of_all(|e| run(e, c.mode, &c.reception, &c.register, &c.rows, &c.hgv, c.hgc_len)).answer;
+        let answered = of_all(|e| run_given(e, &c.register, &Given::of_case(&c))).answer;
         if c.mode != 2 || !matches!(answered.number, 0 | 33..=35) || held_in(&c.register, &c.hgv[1..7]) == 0 {
             continue;
         }
@@ -220,7 +220,7 @@ fn between_accepted_files() {
             let outcome = run(engine, *mode, R0, &register, ROW0, &hgv(lines), 174 + 130 * lines.len());
             assert_eq!(outcome.answer.number, *expected, "{}", engine.name);
             if outcome.answer.number == 0 {
-                assert_eq!((engine.update)(*mode, &mut copy, &hgv(lines), &outcome.hgc).number, 0);
+                assert_eq!((engine.update)(*mode, 0, &mut copy, &hgv(lines), &outcome.hgc).number, 0);
             }
             register = outcome.register;
             assert_eq!(copy, copy_expected(&register, b"900123"));

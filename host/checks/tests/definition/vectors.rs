@@ -1,7 +1,7 @@
 //! The programs' vectors, answered by the plain implementation too.
 
 use graftspindle_checks::sources::root;
-use graftspindle_checks::vectors::{first_difference, Difference, PROGRAMS};
+use graftspindle_checks::vectors::{first_difference, written, Difference, Samples, PROGRAMS};
 use std::fs::read;
 
 /// What a program reads and what it has to write.
@@ -18,6 +18,45 @@ fn plain_answers_every_vector() {
         if let Some(Difference { line, vector, at, expected, answered }) = first_difference(ask, &stdin, &stdout) {
             panic!("{program}/stdin:{line}: {vector}\n{program}/stdout:{at}: {expected}\nplain: {answered}");
         }
+    }
+}
+
+/// The same vector with an offset in front, where it is an import or an update.
+fn with_offset(vector: &[u8], offset: &[u8]) -> Option<Vec<u8>> {
+    let tags: [(&[u8], &[u8]); 2] = [(b"import   ", b"local    "), (b"update   ", b"utc      ")];
+    tags.iter().find_map(|(tag, other)| Some([other, offset, b" ", vector.strip_prefix(*tag)?].concat()))
+}
+
+/// With an offset of none in front an import and an update are answered as without; and how each offset is.
+#[test]
+fn offsets_in_front() {
+    let ((stdin, _), (_, ask)) = (files("cases_imports"), PROGRAMS[1]);
+    let (mut samples, mut tried) = (Samples::none(), 0);
+    for vector in stdin.split(|&b| b == b'\n') {
+        let answer = written(ask, &mut samples, vector)[vector.len()..].to_vec();
+        for other in [b"+0000", b"-0000"].iter().filter_map(|offset| with_offset(vector, *offset)) {
+            let told = written(ask, &mut samples, &other);
+            assert_eq!(told[other.len()..], answer, "{}", other.escape_ascii());
+            tried += 1;
+        }
+    }
+    assert!(tried >= 500, "{tried} vectors");
+    let each = b"each     local    +#### 1 20250310050000 r F--- 0---- 0174 0000";
+    for (sign, ranges) in [(b'+', "0000-0840: 0, 0841-9999: 22"), (b'-', "0000-0720: 0, 0721-9999: 22")] {
+        let vector: Vec<u8> = each.iter().map(|&b| if b == b'+' { sign } else { b }).collect();
+        let told = written(ask, &mut samples, &vector);
+        assert_eq!(told, [&vector, format!(" -> {ranges}").as_bytes()].concat());
+    }
+}
+
+#[test]
+fn seconds_of_vectors() {
+    let (_, ask) = PROGRAMS[0];
+    let told = |vector: &str| String::from_utf8(written(ask, &mut Samples::none(), vector.as_bytes())).expect("ASCII");
+    for (time, answer) in
+        [("00010101000000", "0 0"), ("20250310050000", "0 63877179600"), ("20250310240000", "22 0"), ("2025", "22 0")]
+    {
+        assert_eq!(told(&format!("seconds  {time}")), format!("seconds  {time} -> {answer}"));
     }
 }
 

@@ -38,6 +38,7 @@ fn add(all: &mut Functions, (name, parameters, result): (String, Vec<Parameter>,
 fn crossing((name, kind): &Parameter) -> Vec<Parameter> {
     let parts: &[(&str, &str)] = match kind.as_str() {
         "u64" => &[("", "u64")],
+        "i64" => &[("", "i64")],
         "&mut u64" => &[("", "*mut u64")],
         "&[u8]" => &[("", "*const u8"), ("_length", "usize")],
         "&mut [u8]" => &[("", "*mut u8"), ("_length", "usize")],
@@ -94,21 +95,25 @@ fn each_declaration_is_its_export() {
     for (name, export) in &exports {
         assert_eq!(&declarations[name], export, "{name}: declared in Rust, and exported by the crates");
     }
-    assert!(exports.len() >= 5, "{} exports", exports.len());
+    assert!(exports.len() >= 9, "{} exports", exports.len());
 }
 
 /// That the comparison tells apart: each of these changes of a declaration is another function.
 #[test]
 fn a_changed_declaration_is_told_apart() {
-    let export = "#[no_mangle]\npub extern \"C\" fn f(\n    mode: u64,\n    a: &[u8],\n    b: &mut [u8],\n    n: &mut u64,\n) -> u64\n    ensures { λ r. r }\n{";
-    let right = "extern \"C\" { fn f(mode: u64, a: *const u8, a_length: usize, b: *mut u8, b_length: usize, n: *mut u64) -> u64; }";
+    let export = "#[no_mangle]\npub extern \"C\" fn f(\n    mode: u64,\n    offset: i64,\n    a: &[u8],\n    b: &mut [u8],\n    n: &mut u64,\n) -> u64\n    ensures { λ r. r }\n{";
+    let right = "extern \"C\" { fn f(mode: u64, offset: i64, a: *const u8, a_length: usize, b: *mut u8, b_length: usize, n: *mut u64) -> u64; }";
     let (mut exports, mut same) = (Functions::new(), Functions::new());
     exported(export, &mut exports);
     declared(right, &mut same);
     assert_eq!(same, exports);
     let changes = [
         ("fn f", "fn g"),
-        ("mode: u64, a: *const u8", "mode: u32, a: *const u8"),
+        ("mode: u64, offset: i64", "mode: u32, offset: i64"),
+        ("mode: u64, offset: i64", "offset: i64, mode: u64"),
+        ("offset: i64", "offset: u64"),
+        ("offset: i64", "offset: i32"),
+        ("offset: i64, ", ""),
         ("a: *const u8, a_length: usize", "a_length: usize, a: *const u8"),
         (
             "a: *const u8, a_length: usize, b: *mut u8, b_length: usize",
@@ -126,6 +131,23 @@ fn a_changed_declaration_is_told_apart() {
         declared(&right.replacen(from, to, 1), &mut changed);
         assert_ne!(changed, exports, "{from} as {to}");
     }
+}
+
+/// A function that calls an export, and whether it asks before it which form of the boundary is linked.
+fn calls(source: &str) -> Vec<(String, bool)> {
+    let source = code(source);
+    let functions = source.split("\npub fn ").skip(1).filter_map(|function| function.split_once("unsafe {"));
+    let name = |head: &str| head.split('(').next().expect("a name").to_string();
+    functions.map(|(head, _)| (name(head), head.contains("revision::asked();"))).collect()
+}
+
+#[test]
+fn each_call_asks_for_the_revision_first() {
+    let raw = root().join("host/graftspindle/src");
+    let all: Vec<(String, bool)> = files(&raw, ".rs").iter().flat_map(|file| calls(&text(file))).collect();
+    let without: Vec<&str> = all.iter().filter(|(_, asks)| !asks).map(|(name, _)| name.as_str()).collect();
+    assert_eq!(without, ["revision"], "it is what is asked");
+    assert_eq!(all.len(), exports().len(), "{all:?}");
 }
 
 /// The number that a constant of the crate `sizes` has.

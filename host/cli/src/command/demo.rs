@@ -1,5 +1,5 @@
 //! `demo`: three providers send whitelists, two of them written from CSV files, and one provider follows what is held for
-//! him, a sweep too.
+//! him, in winter and in summer time and past a sweep.
 
 use std::ffi::OsString;
 use std::fs::{self, OpenOptions};
@@ -50,36 +50,39 @@ const STORY: [(&str, &[&str]); 13] = [
         &["register new --slots 16 /register", "register new --slots 16 /copy"],
     ),
     (
-        "Each provider sends an incremental list",
+        "Each provider sends an incremental list; the register goes by UTC, and the HGC shows local time",
         &[
-            "import --register /register --issuers /rows --mode incremental --received 20250310050000 \
+            "import --register /register --issuers /rows --mode incremental --received 20250310050000 --offset +01:00 \
              --hgc /900124-incremental.hgc /900124-incremental.hgv",
-            "import --register /register --issuers /rows --mode incremental --received 20250310050500 \
+            "import --register /register --issuers /rows --mode incremental --received 20250310050500 --offset +01:00 \
              --hgc /900125-incremental.hgc /900125-incremental.hgv",
-            "import --register /register --issuers /rows --mode incremental --received 20250310051000 \
+            "import --register /register --issuers /rows --mode incremental --received 20250310051000 --offset +01:00 \
              --hgc /900123-incremental.hgc /900123-incremental.hgv",
         ],
     ),
     ("What the confirmation tells provider 900123", &["read-back /900123-incremental.hgv /900123-incremental.hgc"]),
     (
         "He applies it to his copy",
-        &["update --copy /copy --mode incremental /900123-incremental.hgv /900123-incremental.hgc"],
+        &["update --copy /copy --mode incremental --offset +01:00 /900123-incremental.hgv /900123-incremental.hgc"],
     ),
     (
-        "A day later he sends his full list",
-        &["import --register /register --issuers /rows --mode full --received 20250311050000 \
+        "Three weeks later, in summer time, he sends his full list",
+        &["import --register /register --issuers /rows --mode full --received 20250331050000 --offset +02:00 \
            --hgc /900123-full.hgc /900123-full.hgv"],
     ),
     ("What the confirmation tells him", &["read-back /900123-full.hgv /900123-full.hgc"]),
-    ("He applies that too", &["update --copy /copy --mode full /900123-full.hgv /900123-full.hgc"]),
     (
-        "A lane asks for a PAN and for a plate",
+        "He applies that too, with its offset",
+        &["update --copy /copy --mode full --offset +02:00 /900123-full.hgv /900123-full.hgc"],
+    ),
+    (
+        "A lane asks for a PAN and for a plate; the list was received at 20250331050000 UTC",
         &[
             "lookup pan --register /register 9799001200000051",
-            "lookup plate --register /register --at 20250312080000 ÄB4711 SE",
+            "lookup plate --register /register --at 20250331080000 ÄB4711 SE",
         ],
     ),
-    ("The register then", &["register show --at 20250312080000 /register"]),
+    ("The register then", &["register show --at 20250331080000 /register"]),
     ("Which file touched how many of its accounts", &["register show --lists /register"]),
     (
         "Ended accounts are swept out, and he sweeps his copy at the same time",

@@ -6,7 +6,7 @@ use std::fmt::Display;
 use super::input::Input;
 use super::{texts, Refusal};
 use graftspindle::sizes::{FOOTER, HEADER, HGV_MOST, LINE, RECORD, ROW, SLOT, SLOTS_MOST};
-use graftspindle::{Counts, Number, Register, Slot};
+use graftspindle::{Counts, Number, Offset, Register, Slot};
 
 /// Of an HGV alone.
 pub fn of_hgv(number: Number, hgv: &Input) -> Refusal {
@@ -29,6 +29,30 @@ pub fn of_pair(number: Number, hgv: &Input, hgc: &Input) -> Refusal {
     match number {
         Number::Hgc => Refusal::Number(number, format!("{} beside {}", hgc.name, hgv.name)),
         other => of_hgv(other, hgv),
+    }
+}
+
+/// Of an HGV and its HGC that were to be applied: where they fit each other it is the offset.
+pub fn of_applied(number: Number, hgv: &Input, hgc: &Input, offset: Offset) -> Refusal {
+    if number != Number::Hgc || graftspindle::read_back(&hgv.bytes, &hgc.bytes).is_err() {
+        return of_pair(number, hgv, hgc);
+    }
+    let told = of_offset(offset, &texts::reception(&hgc.bytes), "UTC");
+    Refusal::Number(number, format!("{}: {told}", hgc.name))
+}
+
+/// Of a reception and its offset: which of them it is.
+pub fn of_time(reception: &[u8], offset: Offset) -> Refusal {
+    let shown = texts::shown(reception);
+    let is_real = graftspindle::seconds(reception).is_ok();
+    Refusal::Number(Number::Time, if is_real { of_offset(offset, &shown, "local") } else { shown })
+}
+
+/// An offset that is out of range, or with which the other clock's year of a time is none.
+fn of_offset(offset: Offset, time: &str, clock: &str) -> String {
+    match graftspindle::offset_in_range(offset) {
+        Err(_) => format!("the offset {offset} is not from -12:00 to +14:00"),
+        Ok(()) => format!("at {time} with the offset {offset} the {clock} year is none of 0001 to 9999"),
     }
 }
 

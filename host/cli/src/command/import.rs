@@ -7,12 +7,12 @@ use super::entry::{self, Entry};
 use super::input::Input;
 use super::kinds::{may_replace, must_be_apart, Kind};
 use super::options::Use::{Needed, Optional};
-use super::options::{FORCE, HGC, ISSUERS, JOURNAL, MODE, RECEIVED, REGISTER, WAIT};
+use super::options::{FORCE, HGC, ISSUERS, JOURNAL, MODE, OFFSET, RECEIVED, REGISTER, WAIT};
 use super::totals::Totals;
-use super::{clock, hints, input, mode, texts, Answer, Command, Refusal, Told};
+use super::{clock, hints, input, mode, offset, texts, Answer, Command, Refusal, Told};
 use crate::files::{Disk, Fault, Held, Place};
 use graftspindle::sizes::{HGV_MOST, ROW, ROWS_MOST};
-use graftspindle::{Import, Number, Register};
+use graftspindle::{Import, Number, Offset, Register};
 
 pub static IMPORT: Command = Command {
     name: "import",
@@ -21,6 +21,7 @@ pub static IMPORT: Command = Command {
         Needed(&ISSUERS),
         Needed(&MODE),
         Optional(&RECEIVED),
+        Optional(&OFFSET),
         Needed(&HGC),
         Optional(&WAIT),
         Optional(&JOURNAL),
@@ -30,8 +31,9 @@ pub static IMPORT: Command = Command {
     help: "\
 Imports the whitelist HGV into the register R and writes the confirmation for its sender to OUT. A full list with fewer taken
 lines than half of the records held for its sender is refused (35). The moment of reception is UTC, and the present one
-unless it is given. R and OUT stand or fall together: killed at any moment, after the next command on R both are new or both
-are as they were. An HGC that is at OUT is replaced; a file of another kind is not. An import waits while another one of R
+unless it is given; ends and stamps go by it. The HGC shows it in local time, by the offset, which the provider has to be told
+with the HGC and the mode. R and OUT stand or fall together: killed at any moment, after the next command on R both are new or
+both are as they were. An HGC that is at OUT is replaced; a file of another kind is not. An import waits while another one of R
 runs, or a sweep. HGV or ROWS may be -, standard input. With a journal the import says where the list was imported before, or
 follows another list than the last one of its sender.
 ",
@@ -63,7 +65,7 @@ fn not_fetched(out: &Place) -> Refusal {
 fn explained(number: Number, import: &Import, names: &Names, register: &[u8]) -> Refusal {
     let (hgv, rows) = (names.hgv, names.rows);
     match number {
-        Number::Time => Refusal::Number(number, texts::shown(import.reception)),
+        Number::Time => hints::of_time(import.reception, import.offset),
         Number::Order => hints::of_order(names.register, register),
         Number::Rows => Refusal::Number(number, rows.name.clone()),
         Number::Parties => hints::of_parties(hgv, rows),
@@ -91,8 +93,9 @@ fn run(disk: &dyn Disk, given: &Arguments) -> Answer {
 
 fn import<'a>(disk: &'a dyn Disk, given: &Arguments, entry: &mut Entry<'a>) -> Answer {
     let [hgv] = given.rest()?;
-    let mode = mode(given)?;
+    let (mode, offset) = (mode(given)?, offset(given)?);
     entry.say("mode", given.text(&MODE)?);
+    entry.say("offset", offset.to_string());
     let place = Place::of_known(given.path(&REGISTER)?)?;
     let hgc_place = place_of_hgc(disk, given, Path::new(hgv))?;
     let rows = given.path(&ISSUERS)?.as_os_str();
@@ -106,7 +109,7 @@ fn import<'a>(disk: &'a dyn Disk, given: &Arguments, entry: &mut Entry<'a>) -> A
     // Only now: imports that waited for each other are received in the order in which they are imported.
     let reception = given.text_if_given(&RECEIVED).map_or_else(clock::now, String::into_bytes);
     entry.say("reception", texts::shown(&reception));
-    let import = Import { mode, reception: &reception, rows: &rows.bytes, hgv: &hgv.bytes };
+    let import = Import { mode, reception: &reception, offset, rows: &rows.bytes, hgv: &hgv.bytes };
     let names = Names { register: &place.path().display().to_string(), rows: &rows, hgv: &hgv };
     let answer = carry_out(&held, &import, &names, &hgc_place, entry);
     entry.hold(held);
@@ -130,7 +133,13 @@ fn carry_out(held: &Held, import: &Import, names: &Names, out: &Place, entry: &m
     }
     replaced?;
     let (totals, out) = (Totals::of(&names.hgv.bytes, &hgc), out.path().display());
-    let text = format!("taken {taken}, rejected {rejected}; the HGC is {out}\n{}", totals.text());
+    let (utc, shown, offset) = (texts::shown(import.reception), texts::reception(&hgc), import.offset);
+    let clocks = match offset {
+        Offset::UTC => String::new(),
+        offset => format!("received {utc} UTC, which the HGC shows as {shown} ({offset})\n"),
+    };
+    let text = format!("taken {taken}, rejected {rejected}; the HGC is {out}\n{clocks}{}", totals.text());
     let told = Told::new(text).with("taken", taken).with("rejected", rejected).with("reasons", totals.json());
+    let told = told.with("reception", utc).with("offset", offset.to_string()).with("shown", shown);
     Ok(told.with("hgc", out.to_string()))
 }

@@ -80,6 +80,13 @@ option!(COPY, "copy", "C", Kind::File, "The provider's copy of his part of the r
 option!(ISSUERS, "issuers", "ROWS", Kind::File, "The issuer rows, 24 bytes each.");
 option!(MODE, "mode", "incremental|full", Kind::OneOf(MODES), "The mode of the list.");
 option!(RECEIVED, "received", MOMENT, Kind::Text, "The moment of reception, UTC; the present one unless given.");
+option!(
+    OFFSET,
+    "offset",
+    "+HH:MM",
+    Kind::Text,
+    "Local time less UTC, from -12:00 to +14:00, by which the HGC shows the reception; +00:00 unless given."
+);
 option!(HGC, "hgc", "OUT", Kind::File, "Where the confirmation is written.");
 option!(AT, "at", MOMENT, Kind::Text, "The time that is asked for or swept at, UTC; the present one unless given.");
 option!(SLOTS, "slots", "N", Kind::Text, "How many slots there are.");

@@ -45,9 +45,9 @@ pub fn obe(record: &[u8]) -> String {
     positions(record, 62, 79)
 }
 
-/// Of an HGV's header, as far as it reaches.
-fn of_header(hgv: &[u8], from: usize, to: usize) -> String {
-    shown(hgv.get(from - 1..to).unwrap_or_default())
+/// Of a file's header, as far as it reaches.
+fn of_header(file: &[u8], from: usize, to: usize) -> String {
+    shown(file.get(from - 1..to).unwrap_or_default())
 }
 
 pub fn sender(hgv: &[u8]) -> String {
@@ -64,6 +64,11 @@ pub fn list(hgv: &[u8]) -> String {
 
 pub fn previous(hgv: &[u8]) -> String {
     of_header(hgv, 33, 51)
+}
+
+/// Of an HGC: by local time.
+pub fn reception(hgc: &[u8]) -> String {
+    of_header(hgc, 33, 46)
 }
 
 /// Without the zeros in front.

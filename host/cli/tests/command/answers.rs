@@ -86,9 +86,10 @@ fn more_slots_than_any_register_has() {
 #[test]
 fn numbers_that_the_command_cannot_get() {
     let (rows, hgv) = (sample::row(), sample::hgv(1));
-    let import = |mode, hgc: &mut [u8]| raw::import(mode, sample::RECEPTION, &mut [0; SLOT], &rows, &hgv, hgc).number;
+    let import =
+        |mode, hgc: &mut [u8]| raw::import(mode, sample::RECEPTION, 0, &mut [0; SLOT], &rows, &hgv, hgc).number;
     assert_eq!(import(3, &mut []), 21);
-    assert_eq!(raw::update(0, &mut [0; SLOT], &hgv, &[]).number, 21);
+    assert_eq!(raw::update(0, 0, &mut [0; SLOT], &hgv, &[]).number, 21);
     assert_eq!(import(1, &mut [0; 173]), 34);
     let mut hgc = [0; 174];
     assert_eq!(import(1, &mut hgc), 0);

@@ -93,6 +93,18 @@ pub fn fed(folder: &Folder, line: &str, input: &[u8]) -> Ran {
     ran(child.wait_with_output().expect("it ends"))
 }
 
+/// A refusal in one line that has all these words; nothing is changed.
+pub fn assert_says(folder: &Folder, line: &str, status: i32, words: &[&str]) {
+    let before = folder.all();
+    let done = graftspindle(folder, line);
+    assert_eq!((done.status, done.said.as_str()), (status, ""), "{line}: {}", done.fault);
+    assert_eq!(done.fault.lines().count(), 1, "{}", done.fault);
+    for word in words {
+        assert!(done.fault.contains(word), "{word}: {}", done.fault);
+    }
+    assert!(folder.all() == before, "{line}");
+}
+
 pub const IMPORT: &str =
     "import --register @register --issuers @rows --mode incremental --received 20250310050000 --hgc @hgc @hgv";
 
@@ -100,7 +112,7 @@ pub const IMPORT: &str =
 pub fn ready() -> Folder {
     let folder = Folder::new();
     let (mut register, mut hgc, rows) = (vec![0; 8 * SLOT], vec![0; 1000], sample::row());
-    let first = raw::import(1, sample::RECEPTION, &mut register, &rows, &sample::hgv(1), &mut hgc);
+    let first = raw::import(1, sample::RECEPTION, 0, &mut register, &rows, &sample::hgv(1), &mut hgc);
     let mut hgv = sample::hgv(4);
     hgv[128 + 3 * 128 + 79] = b'X';
     folder.write("register", &register);

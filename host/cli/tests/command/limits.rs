@@ -42,7 +42,7 @@ fn files_without_an_end() {
 fn largest_that_can_be_in_form() {
     let import = |hgv: &[u8]| {
         let (mut register, mut hgc) = (vec![0; REGISTER_MOST], vec![0; HGC_MOST]);
-        raw::import(1, sample::RECEPTION, &mut register, &sample::row(), hgv, &mut hgc)
+        raw::import(1, sample::RECEPTION, 0, &mut register, &sample::row(), hgv, &mut hgc)
     };
     let (most, more) = (sample::hgv(LINES_MOST), sample::hgv(LINES_MOST + 1));
     assert_eq!((most.len(), import(&most).number), (HGV_MOST, 0));

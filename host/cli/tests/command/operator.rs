@@ -57,7 +57,8 @@ fn answers_as_json() {
     let out = folder.text("hgc");
     let told = said(&folder, &format!("{IMPORT} --json"));
     let reasons = "\"reasons\":[{\"reason\":12,\"lines\":1}]";
-    assert_eq!(told, format!("{{\"status\":0,\"taken\":3,\"rejected\":1,{reasons},\"hgc\":\"{out}\"}}\n"));
+    let clocks = "\"reception\":\"20250310050000\",\"offset\":\"+00:00\",\"shown\":\"20250310050000\"";
+    assert_eq!(told, format!("{{\"status\":0,\"taken\":3,\"rejected\":1,{reasons},{clocks},\"hgc\":\"{out}\"}}\n"));
     let pan = sample::pan(3);
     let told = said(&folder, "read-back --rejected --json @hgv @hgc");
     let line = format!("{{\"line\":4,\"pan\":\"{pan}\",\"plate\":\"GS0003\",\"reason\":12}}");

@@ -164,11 +164,16 @@ fn assert_refused(folder: &Folder, line: &str, status: i32, words: &str) {
 fn times_that_are_none() {
     let folder = holding();
     for time in ["20250230000000", "2025", "now", "00000000000000", "202504010000000"] {
-        let words = format!("the time is not a real time YYYYMMDDhhmmss: {time}");
+        let words = format!("the time is not a real time YYYYMMDDhhmmss, or cannot have its offset: {time}");
         assert_refused(&folder, &SWEEP.replace(AT, time), 22, &words);
     }
     folder.write("register", b"1");
-    assert_refused(&folder, "sweep --at 2025 @register", 22, "the time is not a real time YYYYMMDDhhmmss: 2025");
+    assert_refused(
+        &folder,
+        "sweep --at 2025 @register",
+        22,
+        "the time is not a real time YYYYMMDDhhmmss, or cannot have its offset: 2025",
+    );
 }
 
 #[test]

@@ -10,16 +10,6 @@ fn with(from: usize, field: &[u8]) -> Vec<u8> {
     hgv
 }
 
-/// The line has all these words.
-fn assert_says(folder: &Folder, line: &str, status: i32, words: &[&str]) {
-    let done = graftspindle(folder, line);
-    assert_eq!(done.status, status, "{line}: {}", done.fault);
-    assert_eq!(done.fault.lines().count(), 1, "{}", done.fault);
-    for word in words {
-        assert!(done.fault.contains(word), "{word}: {}", done.fault);
-    }
-}
-
 #[test]
 fn length_of_an_hgv() {
     let folder = ready();

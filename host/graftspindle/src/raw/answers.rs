@@ -41,3 +41,12 @@ pub struct Swept {
     /// How many records went.
     pub removed: u64,
 }
+
+/// The answer of the time check.
+#[derive(Clone, Copy, Debug, Default, PartialEq, Eq)]
+pub struct Timed {
+    /// 0, or 22 where the time is not real.
+    pub number: u64,
+    /// The seconds since 00010101000000.
+    pub seconds: u64,
+}

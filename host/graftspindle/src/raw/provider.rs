@@ -1,6 +1,6 @@
 //! The provider's side: reading an HGC back, and the update of his copy.
 
-use super::Counted;
+use super::{revision, Counted};
 
 extern "C" {
     fn graftspindle_read_back(
@@ -15,6 +15,7 @@ extern "C" {
     ) -> u64;
     fn graftspindle_update(
         mode: u64,
+        offset: i64,
         copy: *mut u8,
         copy_length: usize,
         hgv: *const u8,
@@ -28,6 +29,7 @@ extern "C" {
 
 /// A byte for each HGV line in `verdicts`: 0 if taken, else the reason.
 pub fn read_back(hgv: &[u8], hgc: &[u8], verdicts: &mut [u8]) -> Counted {
+    revision::asked();
     let mut done = Counted::default();
     // SAFETY: each pointer and length are one live slice's, and the borrows keep the written ones apart.
     done.number = unsafe {
@@ -45,13 +47,15 @@ pub fn read_back(hgv: &[u8], hgc: &[u8], verdicts: &mut [u8]) -> Counted {
     done
 }
 
-/// The provider's update of his copy.
-pub fn update(mode: u64, copy: &mut [u8], hgv: &[u8], hgc: &[u8]) -> Counted {
+/// The provider's update of his copy. The HGC's reception is so many minutes later than UTC.
+pub fn update(mode: u64, offset: i64, copy: &mut [u8], hgv: &[u8], hgc: &[u8]) -> Counted {
+    revision::asked();
     let mut done = Counted::default();
     // SAFETY: as above.
     done.number = unsafe {
         graftspindle_update(
             mode,
+            offset,
             copy.as_mut_ptr(),
             copy.len(),
             hgv.as_ptr(),

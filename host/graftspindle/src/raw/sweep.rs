@@ -1,6 +1,6 @@
 //! The sweep of ended records.
 
-use super::Swept;
+use super::{revision, Swept};
 
 extern "C" {
     fn graftspindle_sweep(
@@ -15,6 +15,7 @@ extern "C" {
 /// Removes every record whose end is not zeros and not later than the time. The others close up in order, each with its
 /// stamp; the slots behind them are free.
 pub fn sweep(register: &mut [u8], time: &[u8]) -> Swept {
+    revision::asked();
     let mut done = Swept::default();
     // SAFETY: each pointer and length are one live slice's, and the borrows keep the written ones apart.
     done.number = unsafe {

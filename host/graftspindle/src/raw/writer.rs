@@ -1,6 +1,6 @@
 //! The writer of lists: an HGV of a provider's accounts.
 
-use super::Written;
+use super::{revision, Written};
 
 extern "C" {
     fn graftspindle_write(
@@ -47,6 +47,7 @@ pub struct List<'a> {
 
 /// Writes the HGV of the accounts in front of `out`.
 pub fn write(list: &List, out: &mut [u8]) -> Written {
+    revision::asked();
     let mut done = Written::default();
     // SAFETY: each pointer and length are one live slice's, and the borrows keep the written ones apart.
     done.number = unsafe {

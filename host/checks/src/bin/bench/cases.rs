@@ -8,6 +8,7 @@ use graftspindle_checks::sample;
 pub struct Case {
     pub name: String,
     pub mode: u64,
+    pub offset: i64,
     /// The blocks that may be written, and those that are only read.
     pub written: Vec<Vec<u8>>,
     pub read: Vec<Vec<u8>>,
@@ -16,6 +17,9 @@ pub struct Case {
 }
 
 type Lines = fn(usize) -> String;
+
+/// Minutes.
+const AHEAD: i64 = 60;
 
 fn file(size: usize, line: Lines) -> Vec<u8> {
     sample::hgv_of(&(0..size).map(line).collect::<Vec<_>>())
@@ -45,8 +49,14 @@ fn mixed_line(i: usize) -> String {
 
 fn import(engine: &Engine, case: &Case, blocks: &mut [Vec<u8>]) -> [u64; 4] {
     let [register, hgc] = blocks else { unreachable!() };
-    let done = (engine.import)(case.mode, sample::RECEPTION, register, &case.read[0], &case.read[1], hgc);
+    let (rows, hgv) = (&case.read[0], &case.read[1]);
+    let done = (engine.import)(case.mode, sample::RECEPTION, case.offset, register, rows, hgv, hgc);
     [done.number, done.taken, done.rejected, done.length]
+}
+
+/// The same call where local time is ahead of UTC.
+fn ahead(case: Case) -> Case {
+    Case { name: format!("{}, offset {AHEAD}", case.name), offset: AHEAD, ..case }
 }
 
 fn imports(size: usize) -> Vec<Case> {
@@ -59,12 +69,14 @@ fn imports(size: usize) -> Vec<Case> {
     let case = |(kind, register, line, rejected): &(&str, Vec<u8>, Lines, u64), mode| Case {
         name: format!("import, {kind}, mode {mode}"),
         mode,
+        offset: 0,
         written: vec![register.clone(), vec![0xAA; 174 + 130 * size]],
         read: vec![sample::row(), file(size, *line)],
         call: import,
         expected: [0, n - rejected, *rejected, 174 + 130 * rejected],
     };
-    kinds.iter().flat_map(|kind| [case(kind, 1), case(kind, 2)]).collect()
+    let local = ahead(case(&kinds[1], 2));
+    kinds.iter().flat_map(|kind| [case(kind, 1), case(kind, 2)]).chain([local]).collect()
 }
 
 fn by_pan(engine: &Engine, case: &Case, _: &mut [Vec<u8>]) -> [u64; 4] {
@@ -89,6 +101,7 @@ fn lookups(size: usize) -> Vec<Case> {
     let case = |(key, text, call, expected): (&str, String, _, _)| Case {
         name: format!("lookup by {key}"),
         mode: 0,
+        offset: 0,
         written: Vec::new(),
         read: vec![full(size), text.into_bytes()],
         call,
@@ -100,7 +113,7 @@ fn lookups(size: usize) -> Vec<Case> {
 /// The HGC that an import of the file into a free register writes.
 fn confirmed(size: usize, hgv: &[u8]) -> Vec<u8> {
     let mut hgc = vec![0; 174 + 130 * size];
-    let done = (ENGINES[1].import)(1, sample::RECEPTION, &mut free(size), &sample::row(), hgv, &mut hgc);
+    let done = (ENGINES[1].import)(1, sample::RECEPTION, 0, &mut free(size), &sample::row(), hgv, &mut hgc);
     hgc.truncate(done.length as usize);
     hgc
 }
@@ -114,7 +127,7 @@ fn read_back(engine: &Engine, case: &Case, blocks: &mut [Vec<u8>]) -> [u64; 4] {
 }
 
 fn update(engine: &Engine, case: &Case, blocks: &mut [Vec<u8>]) -> [u64; 4] {
-    counted((engine.update)(case.mode, &mut blocks[0], &case.read[0], &case.read[1]))
+    counted((engine.update)(case.mode, case.offset, &mut blocks[0], &case.read[0], &case.read[1]))
 }
 
 /// The three kinds of file, with how many of their lines are rejected.
@@ -131,6 +144,7 @@ fn read_backs(size: usize) -> Vec<Case> {
     let case = |(kind, hgv, rejected): (&str, Vec<u8>, u64)| Case {
         name: format!("read back, {kind}"),
         mode: 0,
+        offset: 0,
         written: vec![vec![0xAA; size]],
         read: vec![hgv.clone(), confirmed(size, &hgv)],
         call: read_back,
@@ -144,6 +158,7 @@ fn updates(size: usize) -> Vec<Case> {
     let case = |(kind, hgv, rejected): &(&str, Vec<u8>, u64), copy: &str, block: Vec<u8>, mode| Case {
         name: format!("update, {kind}, {copy} copy, mode {mode}"),
         mode,
+        offset: 0,
         written: vec![block],
         read: vec![hgv.clone(), confirmed(size, hgv)],
         call: update,
@@ -155,6 +170,7 @@ fn updates(size: usize) -> Vec<Case> {
         case(&taken, "full", full(size), 2),
         case(&mixed, "full", full(size), 1),
         case(&rejected, "full", full(size), 2),
+        ahead(case(&taken, "full", full(size), 2)),
     ]
 }
 
@@ -173,6 +189,7 @@ fn writings(size: usize) -> Vec<Case> {
     let case = |(order, accounts): (&str, Vec<u8>)| Case {
         name: format!("write, all good{order}"),
         mode: 0,
+        offset: 0,
         written: vec![vec![0xAA; length]],
         read: vec![sample::row(), accounts],
         call: write,
@@ -199,6 +216,7 @@ fn sweeps(size: usize) -> Vec<Case> {
     let case = |(kind, register, time, removed): (&str, Vec<u8>, &str, usize)| Case {
         name: format!("sweep, {kind}"),
         mode: 0,
+        offset: 0,
         written: vec![register],
         read: vec![time.as_bytes().to_vec()],
         call: sweep,

@@ -13,7 +13,7 @@ const OF_FORMS: [&str; 5] = ["hgv.rs", "line.rs", "rows.rs", "verdict.rs", "word
 
 /// What the definition's functions are lent and answer, without the functions.
 const TYPES: &str =
-    "pub mod raw {\n    mod answers;\n    mod writer;\n    pub use answers::*;\n    pub use writer::List;\n}\n";
+    "pub mod raw {\n    mod answers;\n    mod revision;\n    mod writer;\n    pub use answers::*;\n    pub use writer::List;\n}\n";
 
 /// The judge as the program of one crate with them.
 const MAIN: &str = "fn main() {\n    judge::main()\n}\n";
@@ -54,7 +54,7 @@ impl Workshop {
             told(folder, remove_dir_all(folder))?;
         }
         told(folder, create_dir_all(folder.join("raw")))?;
-        for part in ["answers", "writer"] {
+        for part in ["answers", "revision", "writer"] {
             copy_part(&Path::new("graftspindle/src/raw").join(part), &folder.join("raw").join(part))?;
         }
         copy_part(Path::new("checks/src/bin/judge"), &folder.join("judge"))?;

@@ -4,7 +4,7 @@
 use crate::command::input::Input;
 use crate::command::json::Json;
 use crate::command::{hints, texts, Refusal, Told};
-use graftspindle::{Import, Mode, Number, Register, Verdict};
+use graftspindle::{Import, Mode, Number, Offset, Register, Verdict};
 
 const IN_FORM: &str =
     "an incremental import would not refuse this file for its form; with --issuers its lines are judged too";
@@ -88,13 +88,13 @@ fn judged(hgv: &Input, rows: &Input) -> Asked {
 
 fn verdicts(hgv: &[u8], rows: &[u8]) -> Result<Vec<Verdict>, Number> {
     let ((_, lines, _), creation) = (super::cut(hgv), texts::creation(hgv));
-    let given = Import { mode: Mode::Incremental, reception: creation.as_bytes(), rows, hgv };
+    let (mode, offset) = (Mode::Incremental, Offset::UTC);
+    let given = Import { mode, reception: creation.as_bytes(), offset, rows, hgv };
     let (_, hgc) = Register::free(lines.len())?.import(&given)?;
     graftspindle::read_back(hgv, &hgc).map(|(_, verdicts)| verdicts)
 }
 
-/// Whether a time is real is asked of a lookup, which judges its time before all else.
+/// Whether a time is real.
 pub fn is_real(time: &str) -> bool {
-    let register = Register::from_bytes(Vec::new());
-    register.by_plate(b"", b"", time.as_bytes()) != Err(Number::Time)
+    graftspindle::seconds(time.as_bytes()).is_ok()
 }
