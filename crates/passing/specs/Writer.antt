@@ -4,13 +4,13 @@ use mathlib.Core.Path.{_≡_, refl}
 use mathlib.Core.Bool.{true}
 use mathlib.Core.List.{List, []}
 use Prim.Native.Nat.{ℕ, _+_, _≤_, _<_}
+use lib.IntN.{ℤ}
 use lib.ListN.{length, take, getD}
 use Rattle.theory.specs.Text.{bytes}
 use Rattle.theory.specs.First.{Decided, choose}
 use Rattle.sizes.specs.Sizes.{footerLength, hgcHeaderLength, incremental}
 use Rattle.texts.specs.Field.{field}
 use Rattle.numbers.specs.Number.{number}
-use Rattle.times.specs.Time.{realTime}
 use Rattle.columns.specs.Columns as columns
 use Rattle.hgv.specs.Layout.{linesIn, linesOf}
 use Rattle.header.specs.Header.{sender, receiver, listSequence, previous, count, creation, version}
@@ -18,6 +18,7 @@ use Rattle.slots.specs.Slots.{slotsIn, records}
 use Rattle.slots.specs.Search.{heldByAnother}
 use Rattle.register.specs.Register.{inOrder}
 use Rattle.importer.specs.declared.Imported.{Imported}
+use Rattle.offsets.specs.Offset.{receptionHolds}
 use Rattle.importer.specs.Handed.{handed}
 use Rattle.importer.specs.Promises.{Import}
 use Rattle.demands.specs.Verdicts.{Verdicts}
@@ -46,17 +47,17 @@ module _ (g : Given) (out : List ℕ) (w : Written) (after : List ℕ) (o : Writ
     abbrev list : List ℕ
     list = take (w .length) after
 
-    -- "What it writes must pass stops 25 to 32 in mode 1 under its sender's rows": for every register in order and every real reception the
-    -- import answers none of 21 to 32,
-    module _ (reception register hgc : List ℕ) (real : realTime reception ≡ true) (ordered : inOrder register ≡ true)
-        (r : Imported) (b c : List ℕ) (i : Import (handed incremental reception (g .rows) list hgc) register r b c) where
+    -- "What it writes must pass stops 25 to 32 in mode 1 under its sender's rows": for every register in order, every real reception and
+    -- every offset at which it can be shown the import answers none of 21 to 32,
+    module _ (reception : List ℕ) (offset : ℤ) (register hgc : List ℕ) (real : receptionHolds offset reception ≡ true) (ordered : inOrder register ≡ true)
+        (r : Imported) (b c : List ℕ) (i : Import (handed incremental reception offset (g .rows) list hgc) register r b c) where
       pub passes : (n : ℕ) → 21 ≤ n → n ≤ 32 → r .number ≡ n → ⊥
-      passes = laws.passes g out w after o z reception register hgc real ordered r b c i
+      passes = laws.passes g out w after o z reception offset register hgc real ordered r b c i
 
       -- and where the register has no record, a slot for each account, and the buffer room, every line is taken
       pub all-taken : records register ≡ [] → accountsIn (g .accounts) ≤ slotsIn register → hgcHeaderLength + footerLength ≤ length hgc
           → r ≡ record { number = 0; taken = accountsIn (g .accounts); rejected = 0; length = hgcHeaderLength + footerLength }
-      all-taken = laws.all-taken g out w after o z reception register hgc real ordered r b c i
+      all-taken = laws.all-taken g out w after o z reception offset register hgc real ordered r b c i
 
     -- "no line may break L1 to L10": beside the records R a line's verdict is 04, by L11, where another actor has its PAN, and else 0; so it
     -- is never 01

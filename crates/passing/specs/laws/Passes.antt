@@ -1,7 +1,7 @@
 -- The file keeps every form that the import asks: none of the stops 25 to 32 is given for it, in mode 1 and with these rows. Assumes
 -- nothing.
 use mathlib.Core.Path.{_≡_, refl}
-use mathlib.Core.Bool.{true}
+use mathlib.Core.Bool.{Bool, true}
 use mathlib.Core.List.{List}
 use Prim.Native.Nat.{ℕ}
 use native.Mathlib.Omega.{arith}
@@ -23,7 +23,6 @@ use Rattle.texts.specs.Field.{listed}
 use Rattle.fields.specs.Field.{plain}
 use Rattle.numbers.specs.Number.{number, decimal, zeros}
 use Rattle.numbers.specs.laws.Number.{decimal-digits, number-15, number-2}
-use Rattle.times.specs.Time.{realTime}
 use Rattle.sequences.specs.Sequence.{sequence}
 use Rattle.columns.specs.Columns.{text}
 use Rattle.lines.specs.Rules.{lineFault}
@@ -127,13 +126,13 @@ module _ (g : Given) (k : Kept g) where
       rw (file-width g k, lines-are g k)
       (passes-each (framed lineLength) (each-of-map (accountLine (g .sender)) (accountsOf (g .accounts)) (each-map (λ a e. line-framed a (e .0) (e .1)) (each-both (k .faultless) (each-account g k)))))
 
-  -- so the import stops at none of 21 to 32, where the register is in order and the reception real
-  pub passes : (reception register : List ℕ) → realTime reception ≡ true → inOrder register ≡ true → Clear incremental reception register (g .rows) h
+  -- so the import stops at none of 21 to 32, where the register is in order and the reception and the offset hold
+  pub passes : (timed : Bool) (register : List ℕ) → timed ≡ true → inOrder register ≡ true → Clear incremental timed register (g .rows) h
   unfolding modeHolds fullWith220001 isFull
-  passes reception register real ordered =
+  passes timed register received ordered =
       record {
         moded = refl;
-        received = real;
+        received = received;
         ordered = ordered;
         rowed = k .rowed;
         sized = sized;

@@ -6,6 +6,7 @@ use mathlib.Core.List.{List, [], _∷_, map}
 use Prim.Native.Nat.{ℕ, zero, suc, _+_, _≤_, _<_}
 use native.Mathlib.Omega.{arith}
 use lib.Dec.{ltb}
+use lib.IntN.{ℤ}
 use lib.ListN.{length, take, getD, length-map}
 use lib.Seq.{take-at}
 use borrow.Author.Tests.{le-ltb, ltb-true, not-false}
@@ -26,7 +27,6 @@ use Rattle.sizes.specs.Modes.{isFull}
 use Rattle.texts.specs.Field.{field}
 use Rattle.numbers.specs.Number.{number}
 use Rattle.numbers.specs.laws.Number.{number-15, number-decimal}
-use Rattle.times.specs.Time.{realTime}
 use Rattle.times.specs.laws.Moment.{real-length}
 use Rattle.columns.specs.Columns as columns
 use Rattle.lines.specs.Rules.{lineFault}
@@ -42,6 +42,8 @@ use Rattle.holdings.specs.Holdings.{holdings}
 use Rattle.thinness.specs.laws.Thin.{incremental-thick}
 use Rattle.hgc.specs.laws.Confirmation.{length-confirmation}
 use Rattle.importer.specs.declared.Imported.{Imported}
+use Rattle.offsets.specs.Offset.{local, receptionHolds}
+use Rattle.offsets.specs.laws.Shift.{local-real}
 use Rattle.importer.specs.Handed.{Handed, handed}
 use Rattle.importer.specs.Import.{judged, fileStamp, following, confirmed, judgedStops, success}
 use Rattle.importer.specs.Promises.{Import}
@@ -160,13 +162,13 @@ module _ (g : Given) (out : List ℕ) (w : Written) (after : List ℕ) (o : Writ
     sender-is : sender list ≡ g .sender
     sender-is = rw list-is (fields.sender-is g given-kept)
 
-    module _ (reception register hgc : List ℕ) (real : realTime reception ≡ true) (ordered : inOrder register ≡ true)
-        (r : Imported) (b c : List ℕ) (i : Import (handed incremental reception (g .rows) list hgc) register r b c) where
+    module _ (reception : List ℕ) (offset : ℤ) (register hgc : List ℕ) (real : receptionHolds offset reception ≡ true) (ordered : inOrder register ≡ true)
+        (r : Imported) (b c : List ℕ) (i : Import (handed incremental reception offset (g .rows) list hgc) register r b c) where
       abbrev f : Handed
-      f = handed incremental reception (g .rows) list hgc
+      f = handed incremental reception offset (g .rows) list hgc
 
-      formed : Clear incremental reception register (g .rows) list
-      formed = rw list-is (form.passes g given-kept reception register real ordered)
+      formed : Clear incremental (receptionHolds offset reception) register (g .rows) list
+      formed = rw list-is (form.passes g given-kept (receptionHolds offset reception) register real ordered)
 
       judged-number : r .number ≡ first (judgedStops f register)
       judged-number = imports.number-is f register r b c i ∙ sym (number-judged f register formed (first (judgedStops f register)) refl)
@@ -194,7 +196,7 @@ module _ (g : Given) (out : List ℕ) (w : Written) (after : List ℕ) (o : Writ
         length-confirmed : length (confirmed f register) ≡ hgcHeaderLength + footerLength
         unfolding confirmed
         length-confirmed =
-            length-confirmation reception list vs (real-length reception real) (formed .sized) (omega (arith, judged-so .for-each, length-lines list)) ∙ rw rejected-none (omega arith)
+            length-confirmation (local offset reception) list vs (real-length (local offset reception) (local-real offset reception real)) (formed .sized) (omega (arith, judged-so .for-each, length-lines list)) ∙ rw rejected-none (omega arith)
 
         length-following : length (following f register) ≤ slotsIn register
         unfolding following holdings isFull taken
