@@ -9,4 +9,5 @@ pub mod Weights
 pub mod Thin
 pub mod Stamps
 pub mod Sweeps
+pub mod Clocks
 pub mod laws

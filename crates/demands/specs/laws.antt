@@ -14,3 +14,4 @@ pub mod Thin
 pub mod Stamps
 pub mod Sweeps
 pub mod Mended
+pub mod Clocks

@@ -348,6 +348,8 @@ pub record Summer : Type 0 where
   -- his copy, by the same offsets
   pub receipt₁₁ : receiptHolds (file₁₁ .hgv) hgc₁₁ ≡ true
   pub receipt₁₂ : receiptHolds (file₁₂ .hgv) hgc₁₂ ≡ true
+  pub reception₁₁ : receptionOf hgc₁₁ ≡ files.winterShown
+  pub reception₁₂ : receptionOf hgc₁₂ ≡ files.summerShown
   pub updated₁₁ : copyAs true files.winter (sentWith file₁₁ hgc₁₁) (empty 2) ≡ register₁₁
   pub updated₁₂ : copyAs true files.summer (sentWith file₁₂ hgc₁₂) register₁₁ ≡ register₁₂
   -- by the winter's offset the second would have another stamp
@@ -357,6 +359,7 @@ pub record Summer : Type 0 where
   pub summer-by : secondsBy files.summerShown + 43200 ≡ secondsBy files.summer + 840 * 60
   pub mistaken-by : secondsBy files.summerShown + 43200 ≡ secondsBy files.mistaken + 780 * 60
   pub winter-real : realTime files.winter ≡ true
+  pub summer-real : realTime files.summer ≡ true
   pub winter-shown : realTime files.winterShown ≡ true
   pub summer-shown : realTime files.summerShown ≡ true
   pub mistaken-real : realTime files.mistaken ≡ true
@@ -365,4 +368,4 @@ pub record Summer : Type 0 where
 
 pub computed : Single × (Seven × (Late × (Emptied × Summer)))
 unfolding takenNext earlier bump distinct all run leading choose first flat onto free pad frontOn front chop good bad pick eqs mem scan tally each some field listed filledTo filled numberAfter number decimal pan doubled addend luhnSum luhn allowed plate nationality separated separator rowHolds rowsHold sentBy rowBegins rowFits known someRowBegins someRowFits daysIn realTime realDate tariffHolds classHolds emissionHolds productHolds engineHolds validToHolds separatorHolds fieldsHold vehicleHolds limits meets meetsEach missing allows weightHolds L10 endOf recordOf slotOf stamp stampHolds L1 L2 L3 L4 L5 L6 L7 nationalityBlank L8 L9 rulesBy lineRules recordHolds starred slotsOf marked usedForm freeForm records usedPart inOrder holdsPan placeOf ofActor holdsForeign heldByAnother countOf widthOf linesIn lengthHolds body linesOf footer footerForm footerHolds framed framesHold sequence previousHolds headerHolds versionHolds incrementalOnly receiverHolds countHolds zeros outcome head answer said answers foot confirmation ownRules verdictRules verdict verdictsOf fileVerdicts taken rejected storedOn stored storedAll others replacedAll isFull holdings usedAfter modeHolds fullWith220001 addressed callStops fileStops formStops formStop judged following thin unlessStopped refusal registerWritten confirmedAs stopsAs numberAs answerAs registerAs hgcAs empty sift isTaken marksFrom marks left answersIn behindHead answersOf lengthForm headForm answerForm formHolds namesHold outcomeHolds reasonHolds textsOf copiesOf marksOf takenBy sameTexts copiesHold countsHold lineHolds takenHold saysHold linesHold receiptHolds stopCounts successCounts ownHolds copyStops followingAs updates.numberAs updates.answerAs copyAs count ended going staying sweepStops sweepNumber sweepAnswer sweptBytes registerSwept copyBy answersBy secondsBy daysBy sum
-computed = (record { good-answer = refl; good-register = refl; empty-answer = refl; empty-hgc = refl; bad-answer = refl; bad-hgc = refl; different = refl; first-register = refl; both-register = refl; both-different = refl; ended-register = refl; ended-hgc = refl }, (record { answer₁ = refl; after₁ = refl; hgc-is₁ = refl; answer₂ = refl; after₂ = refl; hgc-is₂ = refl; answer₃ = refl; after₃ = refl; answer₄ = refl; after₄ = refl; hgc-is₄ = refl; answer₅ = refl; after₅ = refl; answer₆ = refl; after₆ = refl; hgc-is₆ = refl; answer₇ = refl; after₇ = refl }, (record { copy-is = refl; answers-are = refl; their-copy = refl; their-answers = refl }, (record { answer₈ = refl; after₈ = refl; hgc-is₈ = refl; answer₂ = refl; after₂ = refl; hgc-is₂ = refl; answer₉ = refl; after₉ = refl; swept-answer = refl; swept-register = refl; unreal-answer = refl; unreal-register = refl; answer₁₀ = refl; after₁₀ = refl; hgc-is₁₀ = refl; his-copy = refl; his-answers = refl; their-copy = refl; their-answers = refl }, record { answer₁₁ = refl; after₁₁ = refl; hgc-is₁₁ = refl; answer₁₂ = refl; after₁₂ = refl; hgc-is₁₂ = refl; receipt₁₁ = refl; receipt₁₂ = refl; updated₁₁ = refl; updated₁₂ = refl; mistaken₁₂ = refl; winter-by = refl; summer-by = refl; mistaken-by = refl; winter-real = refl; winter-shown = refl; summer-shown = refl; mistaken-real = refl }))))
+computed = (record { good-answer = refl; good-register = refl; empty-answer = refl; empty-hgc = refl; bad-answer = refl; bad-hgc = refl; different = refl; first-register = refl; both-register = refl; both-different = refl; ended-register = refl; ended-hgc = refl }, (record { answer₁ = refl; after₁ = refl; hgc-is₁ = refl; answer₂ = refl; after₂ = refl; hgc-is₂ = refl; answer₃ = refl; after₃ = refl; answer₄ = refl; after₄ = refl; hgc-is₄ = refl; answer₅ = refl; after₅ = refl; answer₆ = refl; after₆ = refl; hgc-is₆ = refl; answer₇ = refl; after₇ = refl }, (record { copy-is = refl; answers-are = refl; their-copy = refl; their-answers = refl }, (record { answer₈ = refl; after₈ = refl; hgc-is₈ = refl; answer₂ = refl; after₂ = refl; hgc-is₂ = refl; answer₉ = refl; after₉ = refl; swept-answer = refl; swept-register = refl; unreal-answer = refl; unreal-register = refl; answer₁₀ = refl; after₁₀ = refl; hgc-is₁₀ = refl; his-copy = refl; his-answers = refl; their-copy = refl; their-answers = refl }, record { answer₁₁ = refl; after₁₁ = refl; hgc-is₁₁ = refl; answer₁₂ = refl; after₁₂ = refl; hgc-is₁₂ = refl; receipt₁₁ = refl; receipt₁₂ = refl; reception₁₁ = refl; reception₁₂ = refl; updated₁₁ = refl; updated₁₂ = refl; mistaken₁₂ = refl; winter-by = refl; summer-by = refl; mistaken-by = refl; winter-real = refl; summer-real = refl; winter-shown = refl; summer-shown = refl; mistaken-real = refl }))))

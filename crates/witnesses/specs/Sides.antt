@@ -1,7 +1,8 @@
 -- Seven files of two providers: a rejected line, another provider, a refused file, the full list, a full list that is too thin, an
--- account replaced, and a refused file again. Then a register that is full of what has ended, which a sweep empties for the next file. The
--- copies are updated afterwards, and hold what we hold for each: so demand 3 speaks of sequences that there are. Assumes nothing.
-use mathlib.Core.Path.{_≡_, refl, sym, ap, _∙_}
+-- account replaced, and a refused file again. Then a register that is full of what has ended, which a sweep empties for the next file. And a
+-- night in which summer time begins, with a file on each side of it. The copies are updated afterwards, and hold what we hold for each: so demand 3 speaks of sequences that there are. Assumes nothing.
+use mathlib.Core.Path.{_≡_, refl, sym, _∙_}
+use mathlib.Core.Bool.{true, false}
 use mathlib.Core.List.{List, [], _∷_, _++_}
 use Prim.Native.Nat.{ℕ, _+_, _*_}
 use lib.IntN.{ℤ, pos}
@@ -13,19 +14,31 @@ use Rattle.theory.specs.Join.{flat}
 use Rattle.theory.specs.Pad.{pad}
 use Rattle.texts.specs.Field.{field}
 use Rattle.sizes.specs.Sizes.{slotLength}
+use Rattle.times.specs.Time.{realTime}
+use Rattle.times.specs.laws.Almanac.{secondsBy, seconds-by}
+use Rattle.offsets.specs.Offset.{offsetHolds, local, utc, receptionHolds, utcHolds}
+use Rattle.offsets.specs.Ahead.{aheadOf}
+use Rattle.offsets.specs.laws.Shift.{shown-is, local-back, local-utc}
+use Rattle.receipts.specs.Receipt.{receptionOf, receiptHolds}
+use Rattle.provider.specs.declared.Counted.{Counted}
 use Rattle.slots.specs.Slots.{records}
 use Rattle.importer.specs.declared.Imported.{Imported}
 use Rattle.importer.specs.Promises.{Import}
+use Rattle.importer.specs.Shown.{answerAs, registerAs, hgcAs}
 use Rattle.importer.specs.laws.Shown.{zero-as, shown-as}
 use Rattle.updating.specs.Sent.{Sent, sent}
 use Rattle.updating.specs.Promises.{Update}
-use Rattle.updating.specs.laws.Shown as updates
+use Rattle.updating.specs.Shown as updates
+use Rattle.updating.specs.Shown.{copyAs}
+use Rattle.updating.specs.Update.{sentHolds}
+use Rattle.updating.specs.laws.Shown as update-laws
+use Rattle.updating.specs.laws.Outcomes.{update-one}
 use Rattle.demands.specs.Own.{own}
 use Rattle.importer.specs.Handed.{Handed}
 use Rattle.sweeping.specs.declared.Swept.{Swept}
 use Rattle.sweeping.specs.Sweep.{sweepAnswer, registerSwept}
 use Rattle.sweeping.specs.Promises.{Sweep}
-use Rattle.demands.specs.History.{apply, sweep, of-sweep, Event, acceptance, sweeping, concerns, his, entries, empty, _▸_, Ours, start, accepted, refused, swept, Replay, applied, swept}
+use Rattle.demands.specs.History.{apply, sweep, of-update, of-sweep, Event, acceptance, sweeping, concerns, his, entries, empty, _▸_, Ours, start, accepted, refused, swept, Replay, applied, swept}
 use Rattle.demands.specs.Demand3.{copy-is}
 use Rattle.witnesses.specs.Files as files
 use Rattle.witnesses.specs.Computed.{answerTo, after, bufferAfter, counts4, file₁, file₂, file₃, file₄, file₅, file₆, file₇, theirs, register₁, register₂, register₄, register₆, hgc₁, hgc₂, hgc₄, hgc₆, Seven, Late, sentWith, his₆, copyBy, answersBy, counts3, file₈, file₉, file₁₀, endedBy, begun, packed, emptied, refilled, hgc₈, hgc₁₀, went, Emptied, computed, answerBy, updatedBy, file₁₁, file₁₂, register₁₁, register₁₂, hgc₁₁, hgc₁₂, Summer}
@@ -41,7 +54,7 @@ outcome f register r b z e d = let k = zero-as f register z in (sym (k .answer �
 -- and of an update
 updated : (s : Sent) (copy : List ℕ) → s .offset ≡ pos 0 → Update s copy (answerBy copy s) (updatedBy copy s)
 unfolding Update
-updated s copy z = let k = updates.zero-as s copy z in (sym (k .answer), sym (k .after))
+updated s copy z = let k = update-laws.zero-as s copy z in (sym (k .answer), sym (k .after))
 
 -- what was sent back
 abbrev events₁ : List Event
@@ -159,3 +172,84 @@ his-part = copy-is full-and-swept files.one his-swept
 
 pub their-part : emptied ≡ flat (pad slotLength 2 (own files.another (records refilled)))
 their-part = copy-is full-and-swept files.another their-swept
+
+-- ---- summer time between two files
+
+night : Summer
+night = computed .1 .1 .1 .1
+
+-- t′ is the local time of t
+module _ (o : ℤ) (t t′ : List ℕ) (i : offsetHolds o ≡ true) (r : realTime t ≡ true) (r′ : realTime t′ ≡ true) (e : secondsBy t′ + 43200 ≡ secondsBy t + aheadOf o * 60) where
+  shown-at : (receptionHolds o t ≡ true) × (local o t ≡ t′)
+  shown-at = shown-is o t t′ i r r′ (rw (seconds-by t, seconds-by t′) e)
+
+  -- and t the UTC time of t′
+  utc-at : (utcHolds o t′ ≡ true) × (utc o t′ ≡ t)
+  utc-at = rw (← shown-at .1) (local-utc o t (shown-at .0), local-back o t (shown-at .0))
+
+-- an outcome of an import at an offset, told by what was computed
+outcome-at : (f : Handed) (register t : List ℕ) (r : Imported) (b : List ℕ) → (receptionHolds (f .offset) (f .reception) ≡ true) × (local (f .offset) (f .reception) ≡ t)
+    → answerAs true t f register ≡ r → registerAs true t f register ≡ b → Import f register r b (hgcAs true t f register)
+unfolding Import
+outcome-at f register t r b k e d = let a = shown-as f register true t (k .0) (k .1) in (sym (a .answer ∙ e), (sym (a .after ∙ d), sym (a .buffer)))
+
+-- and of an update
+updated-at : (s : Sent) (copy t : List ℕ) → receiptHolds (s .hgv) (s .hgc) ≡ true → (utcHolds (s .offset) (receptionOf (s .hgc)) ≡ true) × (utc (s .offset) (receptionOf (s .hgc)) ≡ t)
+    → Update s copy (updates.answerAs true t s copy) (copyAs true t s copy)
+unfolding Update sentHolds
+updated-at s copy t h k = let a = update-laws.shown-as s copy true t (rw (h, k .0)) (k .1) in (sym (a .answer), sym (a .after))
+
+winter-at : (receptionHolds (pos 60) files.winter ≡ true) × (local (pos 60) files.winter ≡ files.winterShown)
+unfolding offsetHolds aheadOf
+winter-at = shown-at (pos 60) files.winter files.winterShown refl (night .winter-real) (night .winter-shown) (night .winter-by)
+
+summer-at : (receptionHolds (pos 120) files.summer ≡ true) × (local (pos 120) files.summer ≡ files.summerShown)
+unfolding offsetHolds aheadOf
+summer-at = shown-at (pos 120) files.summer files.summerShown refl (night .summer-real) (night .summer-shown) (night .summer-by)
+
+-- our side: an hour ahead of UTC, and two
+abbrev told₁₁ : List Event
+told₁₁ = [] ▸ acceptance file₁₁ (counts4 0 1 0 174) (hgcAs true files.winterShown file₁₁ (empty 2))
+
+abbrev pub told₁₂ : List Event
+told₁₂ = told₁₁ ▸ acceptance file₁₂ (counts4 0 1 0 174) (hgcAs true files.summerShown file₁₂ register₁₁)
+
+pub two-clocks : Ours 2 register₁₂ told₁₂
+two-clocks =
+    let s₀ : Ours 2 (empty 2) [] = start (omega arith) in
+    let s₁ : Ours 2 register₁₁ told₁₁ = accepted s₀ file₁₁ _ _ _ (outcome-at file₁₁ (empty 2) files.winterShown (counts4 0 1 0 174) register₁₁ winter-at (night .answer₁₁) (night .after₁₁)) refl in
+    accepted s₁ file₁₂ _ _ _ (outcome-at file₁₂ register₁₁ files.summerShown (counts4 0 1 0 174) register₁₂ summer-at (night .answer₁₂) (night .after₁₂)) refl
+
+-- his side, at the same offsets
+his-clocks : entries (his files.one told₁₂) ≡ [] ▸ apply (sentWith file₁₁ hgc₁₁) ▸ apply (sentWith file₁₂ hgc₁₂)
+unfolding his sift onto concerns acceptance eqs field
+his-clocks = rw (night .hgc-is₁₁, night .hgc-is₁₂)
+
+winter-utc : (utcHolds (pos 60) (receptionOf hgc₁₁) ≡ true) × (utc (pos 60) (receptionOf hgc₁₁) ≡ files.winter)
+unfolding offsetHolds aheadOf
+winter-utc = rw (night .reception₁₁) (utc-at (pos 60) files.winter files.winterShown refl (night .winter-real) (night .winter-shown) (night .winter-by))
+
+summer-utc : (utcHolds (pos 120) (receptionOf hgc₁₂) ≡ true) × (utc (pos 120) (receptionOf hgc₁₂) ≡ files.summer)
+unfolding offsetHolds aheadOf
+summer-utc = rw (night .reception₁₂) (utc-at (pos 120) files.summer files.summerShown refl (night .summer-real) (night .summer-shown) (night .summer-by))
+
+pub his-copy-at : Replay 2 (entries (his files.one told₁₂)) register₁₂
+    (of-update (updates.answerAs true files.summer (sentWith file₁₂ hgc₁₂) register₁₁) ∷ of-update (updates.answerAs true files.winter (sentWith file₁₁ hgc₁₁) (empty 2)) ∷ [])
+his-copy-at =
+    rw his-clocks
+    (applied (applied start (sentWith file₁₁ hgc₁₁) _ register₁₁ (rw (night .updated₁₁) at (updated-at (sentWith file₁₁ hgc₁₁) (empty 2) files.winter (night .receipt₁₁) winter-utc)))
+    (sentWith file₁₂ hgc₁₂) _ register₁₂ (rw (night .updated₁₂) at (updated-at (sentWith file₁₂ hgc₁₂) register₁₁ files.summer (night .receipt₁₂) summer-utc)))
+
+-- it is what demand 3 says
+pub both-clocks : register₁₂ ≡ flat (pad slotLength 2 (own files.one (records register₁₂)))
+both-clocks = copy-is two-clocks files.one his-copy-at
+
+-- and by the winter's offset the second file leaves another copy: he needs the offset of each
+mistaken-utc : (utcHolds (pos 60) (receptionOf hgc₁₂) ≡ true) × (utc (pos 60) (receptionOf hgc₁₂) ≡ files.mistaken)
+unfolding offsetHolds aheadOf
+mistaken-utc = rw (night .reception₁₂) (utc-at (pos 60) files.mistaken files.summerShown refl (night .mistaken-real) (night .summer-shown) (night .mistaken-by))
+
+pub wrong-offset : (u : Counted) (c : List ℕ) → Update (sent 1 (pos 60) (file₁₂ .hgv) hgc₁₂) register₁₁ u c → eqs c register₁₂ ≡ false
+wrong-offset u c o =
+    let s : Sent = sent 1 (pos 60) (file₁₂ .hgv) hgc₁₂ in
+    rw (update-one s register₁₁ u _ c _ o (updated-at s register₁₁ files.mistaken (night .receipt₁₂) mistaken-utc) .1) (night .mistaken₁₂)
