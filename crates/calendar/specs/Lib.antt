@@ -1,3 +1,4 @@
 pub mod Calendar
+pub mod Bounds
 pub mod Promises
 pub mod laws

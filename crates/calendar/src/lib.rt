@@ -2,7 +2,7 @@
 ghost use mathlib.Core.Path.{_≡_};
 ghost use Prim.Native.Nat.{_<_, _≤_};
 ghost use Rattle.calendar.specs.Calendar.{leap, daysIn, realClock, monthsTo, yearDays, yearsTo, over, allSeconds};
-ghost use Rattle.calendar.specs.laws.Bounds.{Bounds};
+ghost use Rattle.calendar.specs.Bounds.{Bounds};
 ghost use Rattle.calendar.specs.Promises.{IsDay, IsMoment, Seconds, MomentAt};
 
 // The seconds of a day, and those of the years 0001 to 9999.

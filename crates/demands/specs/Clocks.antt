@@ -19,7 +19,7 @@ use Rattle.offsets.specs.Offset.{local, utc, receptionHolds, utcHolds}
 use Rattle.offsets.specs.laws.Shift.{local-back, local-utc}
 use Rattle.receipts.specs.Receipt.{receptionOf, receiptHolds}
 use Rattle.importer.specs.declared.Imported.{Imported}
-use Rattle.importer.specs.Handed.{Handed}
+use Rattle.importer.specs.Handed.{Handed, at}
 use Rattle.importer.specs.Shown.{answerAs, registerAs, hgcAs}
 use Rattle.importer.specs.Promises.{Import}
 use Rattle.provider.specs.declared.Counted.{Counted}
@@ -60,7 +60,7 @@ there-and-back o t h = (local-back o t h, local-utc o t h)
 -- "Ends and stamps are reckoned in UTC": two imports that differ in the offset alone, neither refused by it, answer the same and leave the
 -- same register
 pub register-same : (o o′ : ℤ) (f : Handed) (register : List ℕ) → receptionHolds o (f .reception) ≡ true → receptionHolds o′ (f .reception) ≡ true
-    → (r r′ : Imported) (b b′ g g′ : List ℕ) → Import (laws.at o f) register r b g → Import (laws.at o′ f) register r′ b′ g′ → (r ≡ r′) × (b ≡ b′)
+    → (r r′ : Imported) (b b′ g g′ : List ℕ) → Import (at o f) register r b g → Import (at o′ f) register r′ b′ g′ → (r ≡ r′) × (b ≡ b′)
 register-same = laws.register-same
 
 -- With no offset every byte is as before: 22 asks that the reception is real, and the reception is shown; 52 asks that the HGC holds, and its

@@ -15,3 +15,7 @@ pub record Handed : Type 0 where
 -- as the call has them
 abbrev pub handed : ℕ → List ℕ → ℤ → List ℕ → List ℕ → List ℕ → Handed
 handed mode reception offset rows hgv hgc = record { mode = mode; reception = reception; offset = offset; rows = rows; hgv = hgv; hgc = hgc }
+
+-- the same, at another offset
+abbrev pub at : ℤ → Handed → Handed
+at o f = handed (f .mode) (f .reception) o (f .rows) (f .hgv) (f .hgc)

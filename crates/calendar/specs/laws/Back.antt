@@ -8,7 +8,7 @@ use lib.Dec.{leb, ltb}
 use borrow.Author.Tests.{leb-true, leb-false, ltb-true, ltb-false}
 use Rattle.calendar.specs.declared.Moment.{Moment}
 use Rattle.calendar.specs.Calendar.{daysIn, sum, monthsTo, yearDays, yearsTo, days, secs, daySeconds, allSeconds, over, momentIn, momentAt}
-use Rattle.calendar.specs.laws.Bounds.{Bounds}
+use Rattle.calendar.specs.Bounds.{Bounds}
 use Rattle.calendar.specs.laws.Order.{sum-grows, in-year}
 use Rattle.calendar.specs.laws.Years.{all-seconds}
 

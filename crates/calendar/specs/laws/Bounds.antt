@@ -1,4 +1,4 @@
--- What the six numbers of a real moment are within. Assumes nothing.
+-- The numbers of a real moment lie within their bounds, and what lies within them is real. Assumes nothing.
 use mathlib.Core.Path.{_≡_, refl}
 use mathlib.Core.Bool.{Bool, true, false, _&&_, _||_, cond}
 use Prim.Native.Nat.{ℕ, _≤_}
@@ -8,14 +8,7 @@ use borrow.Author.Tests.{leb-true, le-leb}
 use Rattle.theory.specs.laws.Truth.{and-left, and-right, and-both}
 use Rattle.fields.specs.Field.{between}
 use Rattle.calendar.specs.Calendar.{leap, daysIn, realDay, realClock, realMoment}
-
-pub record Bounds (y m d h i s : ℕ) : Type 0 where
-  pub year : (1 ≤ y) × (y ≤ 9999)
-  pub month : (1 ≤ m) × (m ≤ 12)
-  pub day : (1 ≤ d) × (d ≤ daysIn y m)
-  pub hour : h ≤ 23
-  pub minute : i ≤ 59
-  pub second : s ≤ 59
+use Rattle.calendar.specs.Bounds.{Bounds}
 
 pub within : (lo hi n : ℕ) → between lo hi n ≡ true → (lo ≤ n) × (n ≤ hi)
 within lo hi n e = (leb-true lo n (and-left (leb lo n) (leb n hi) e), leb-true n hi (and-right (leb lo n) (leb n hi) e))

@@ -7,7 +7,8 @@ use native.Mathlib.Omega.{arith}
 use lib.Dec.{ltb}
 use borrow.Author.Tests.{ltb-true, ltb-false}
 use Rattle.calendar.specs.Calendar.{daysIn, sum, monthsTo, yearDays, yearsTo, days, secs, daySeconds}
-use Rattle.calendar.specs.laws.Bounds.{Bounds, days-most}
+use Rattle.calendar.specs.Bounds.{Bounds}
+use Rattle.calendar.specs.laws.Bounds.{days-most}
 
 -- YYYYMMDD as one number
 abbrev date : ℕ → ℕ → ℕ → ℕ

@@ -14,7 +14,8 @@ use Rattle.theory.specs.Table.{tableFrom, tableOf}
 use Rattle.theory.specs.laws.Table.{entry}
 use Rattle.fields.specs.Field.{between}
 use Rattle.calendar.specs.Calendar.{leap, daysIn, realDay, sum, monthsTo, yearDays, yearsTo, daySeconds, allSeconds}
-use Rattle.calendar.specs.laws.Bounds.{Bounds, days-most}
+use Rattle.calendar.specs.Bounds.{Bounds}
+use Rattle.calendar.specs.laws.Bounds.{days-most}
 
 -- ---- months and years
 

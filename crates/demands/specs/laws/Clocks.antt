@@ -16,7 +16,7 @@ use Rattle.offsets.specs.Offset.{local, utc, receptionHolds}
 use Rattle.offsets.specs.laws.Shift.{local-real, local-minutes, local-back}
 use Rattle.receipts.specs.Receipt.{receptionOf, receiptHolds}
 use Rattle.importer.specs.declared.Imported.{Imported}
-use Rattle.importer.specs.Handed.{Handed}
+use Rattle.importer.specs.Handed.{Handed, at}
 use Rattle.importer.specs.Import.{following, registerWritten}
 use Rattle.importer.specs.Shown.{confirmedAs, stopsAs, numberAs, answerAs, registerAs, hgcAs}
 use Rattle.importer.specs.Promises.{Import}
@@ -76,10 +76,6 @@ module _ (t t′ : List ℕ) (e : length t ≡ length t′) (f : Handed) (regist
   same-register : registerAs true t f register ≡ registerAs true t′ f register
   unfolding registerAs
   same-register = rw same-number
-
--- the same file, received at the same moment, at this offset
-abbrev pub at : ℤ → Handed → Handed
-at o f = record { mode = f .mode; reception = f .reception; offset = o; rows = f .rows; hgv = f .hgv; hgc = f .hgc }
 
 module _ (o o′ : ℤ) (f : Handed) (register : List ℕ) (h : receptionHolds o (f .reception) ≡ true) (h′ : receptionHolds o′ (f .reception) ≡ true)
     (r r′ : Imported) (b b′ g g′ : List ℕ) (i : Import (at o f) register r b g) (i′ : Import (at o′ f) register r′ b′ g′) where

@@ -12,7 +12,8 @@ use Rattle.sizes.specs.Sizes.{timeLength}
 use Rattle.fields.specs.Field.{digit}
 use Rattle.calendar.specs.declared.Moment.{Moment}
 use Rattle.calendar.specs.Calendar.{realMoment, secs}
-use Rattle.calendar.specs.laws.Bounds.{Bounds, bounds}
+use Rattle.calendar.specs.Bounds.{Bounds}
+use Rattle.calendar.specs.laws.Bounds.{bounds}
 use Rattle.times.specs.Time.{year, month, day, hour, minute, second, realTime}
 use Rattle.times.specs.Seconds.{momentOf, seconds}
 
