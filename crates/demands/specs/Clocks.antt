@@ -3,7 +3,7 @@
 -- stamps are in UTC on both sides is Demand2 and Stamps; that the provider needs the offset of each entry, and nothing else, is
 -- Demand3 itself. Assumes nothing.
 use mathlib.Core.Path.{_≡_}
-use mathlib.Core.Bool.{true, false}
+use mathlib.Core.Bool.{true}
 use mathlib.Core.List.{List}
 use Prim.Native.Nat.{ℕ, _<_}
 use lib.Dec.{ltb}

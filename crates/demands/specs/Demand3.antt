@@ -37,8 +37,8 @@ pub any-idle-sweep : {n : ℕ} {register : List ℕ} {es : List Event} → Ours 
     → r .removed ≡ 0 → Ours n b es
 any-idle-sweep = Ours.idle
 
--- "If he applies each accepted import of his (HGV, HGC, mode) once and in our order," and "sweeps his copy at the same T and the same place in
--- the sequence": whatever was sent can be applied, and every time swept at, whenever he does it. A replay knows nothing of our side but what
+-- "If he applies each accepted import of his (HGV, HGC, mode) once and in our order," with "the same offset", and "sweeps his copy at the same T
+-- and the same place in the sequence": whatever was sent can be applied, and every time swept at, whenever he does it. A replay knows nothing of our side but what
 -- he was told
 pub any-replay : (n : ℕ) (es : List Entry) → (copy : List ℕ) × (us : List Answer) × Replay n es copy us
 any-replay = laws.can-replay
@@ -57,6 +57,6 @@ module _ {n : ℕ} {register : List ℕ} {es : List Event} (ours : Ours n regist
   same-records = laws.stands ours who .replayed copy us replay .0 .held
 
 -- "He needs neither our tables nor anyone else's records."
--- Two replays of the same HGVs, HGCs, modes and times end in the same bytes and answers, whatever else differs
+-- Two replays of the same HGVs, HGCs, modes, offsets and times end in the same bytes and answers, whatever else differs
 pub he-needs-nothing-else : {n : ℕ} {es : List Entry} {c c′ : List ℕ} {us us′ : List Answer} → Replay n es c us → Replay n es c′ us′ → (c ≡ c′) × (us ≡ us′)
 he-needs-nothing-else = laws.replay-one

@@ -6,7 +6,7 @@ use native.Mathlib.Nat.{add-zero, add-suc}
 use native.Mathlib.Omega.{arith}
 use lib.Dec.{ltb}
 use borrow.Author.Tests.{ltb-true, ltb-false}
-use Rattle.calendar.specs.Calendar.{daysIn, sum, monthsTo, yearDays, yearsTo, days, secs, daySeconds}
+use Rattle.calendar.specs.Calendar.{daysIn, sum, monthsTo, yearDays, yearsTo, days, secs}
 use Rattle.calendar.specs.Bounds.{Bounds}
 use Rattle.calendar.specs.laws.Bounds.{days-most}
 

@@ -35,7 +35,7 @@ use Rattle.stops.specs.Stops.{formStops, formStop}
 use Rattle.stops.specs.laws.Clear.{clear}
 use Rattle.importer.specs.declared.Imported.{Imported}
 use Rattle.importer.specs.Handed.{Handed}
-use Rattle.importer.specs.Import.{judged, fileStamp, following, confirmed, judgedStops, stops, importNumber, timed}
+use Rattle.importer.specs.Import.{judged, fileStamp, following, confirmed, judgedStops, importNumber, timed}
 use Rattle.importer.specs.Promises.{Import}
 use Rattle.importer.specs.laws.Numbers.{Formed, number-judged, accepted-clear, accepted-passed}
 use Rattle.importer.specs.laws.Accepted.{lines-his}

@@ -1,7 +1,6 @@
 -- Assumes nothing.
 use borrow.Author.Needs.{needs}
-use mathlib.Core.Path.{_≡_, sym, _∙_}
-use Rattle.times.specs.Seconds.{isReal}
+use mathlib.Core.Path.{_∙_}
 use Rattle.offsets.specs.Offset.{local}
 use Rattle.offsets.specs.laws.Moved.{moved-written, local-moved}
 use Rattle.offsets.proofs.write_local.Statement.{statement}

@@ -1,7 +1,6 @@
 -- Assumes nothing.
 use borrow.Author.Needs.{needs}
-use mathlib.Core.Path.{_≡_, sym, _∙_}
-use Rattle.times.specs.Seconds.{isReal}
+use mathlib.Core.Path.{_∙_}
 use Rattle.offsets.specs.Offset.{utc}
 use Rattle.offsets.specs.laws.Moved.{moved-written, utc-moved}
 use Rattle.offsets.proofs.write_utc.Statement.{statement}

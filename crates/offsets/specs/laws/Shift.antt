@@ -3,7 +3,7 @@
 use mathlib.Core.Path.{_≡_, refl, sym, ap, _∙_}
 use mathlib.Core.Bool.{Bool, true, false, _&&_, and-true, false≢true}
 use mathlib.Core.List.{List}
-use Prim.Native.Nat.{ℕ, zero, suc, _+_, _*_, _-_, _≤_, _<_}
+use Prim.Native.Nat.{ℕ, suc, _+_, _*_, _-_, _≤_, _<_}
 use native.Mathlib.Nat.{add-zero}
 use native.Mathlib.Omega.{arith}
 use lib.Dec.{leb, ltb}
@@ -12,8 +12,7 @@ use lib.Signed.{leZ}
 use borrow.Author.Tests.{leb-true, ltb-true, ltb-false, lt-ltb, le-leb}
 use Rattle.theory.specs.laws.Truth.{and-left, and-right, and-both, and-none}
 use Rattle.calendar.specs.Calendar.{allSeconds}
-use Rattle.times.specs.declared.Time.{Time}
-use Rattle.times.specs.declared.Time.the-variants.{Real, Unreal}
+use Rattle.times.specs.declared.Time.the-variants.{Real}
 use Rattle.times.specs.Time.{realTime}
 use Rattle.times.specs.Seconds.{seconds, timeWhere, timeOf, isReal, timeAt}
 use Rattle.times.specs.laws.Back.{time-real, time-unreal, at-real, at-seconds, seconds-most, at-its-seconds}

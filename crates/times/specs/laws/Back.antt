@@ -3,22 +3,19 @@
 use mathlib.Core.Path.{_≡_, refl, sym, ap, _∙_}
 use mathlib.Core.Bool.{Bool, true, false}
 use mathlib.Core.List.{List, [], _∷_, _++_, append-assoc, append-nil}
-use Prim.Native.Nat.{ℕ, zero, suc, _+_, _*_, _-_, _/_, _%_, _^_, _≤_, _<_}
+use Prim.Native.Nat.{ℕ, suc, _+_, _*_, _-_, _/_, _%_, _≤_, _<_}
 use native.Mathlib.Omega.{arith}
-use lib.ListN.{length, getD}
 use Rattle.theory.specs.Text.{byte}
 use Rattle.theory.specs.laws.Truth.{and-both}
-use Rattle.theory.specs.Every.{all, run}
-use Rattle.theory.specs.laws.Every.{all-run, all-append, run-all}
+use Rattle.theory.specs.Every.{run}
 use Rattle.theory.specs.Join.{flat}
 use Rattle.sizes.specs.Sizes.{timeLength}
-use Rattle.texts.specs.Field.{field}
-use Rattle.texts.specs.laws.Pieces.{Wide, no-more, then, piece, length-pieces}
+use Rattle.texts.specs.laws.Pieces.{Wide, no-more, then, piece}
 use Rattle.fields.specs.Field.{digit}
 use Rattle.numbers.specs.Number.{number, decimal}
 use Rattle.numbers.specs.laws.Number.{length-decimal, decimal-digits, number-decimal, number-2}
 use Rattle.calendar.specs.declared.Moment.{Moment}
-use Rattle.calendar.specs.Calendar.{daysIn, realMoment, secs, allSeconds, momentAt}
+use Rattle.calendar.specs.Calendar.{realMoment, secs, allSeconds, momentAt}
 use Rattle.calendar.specs.laws.Bounds.{days-most, bounds-real}
 use Rattle.calendar.specs.laws.Order.{stamp}
 use Rattle.calendar.specs.laws.Back.{Within, at-bounds, at-secs, secs-most}
