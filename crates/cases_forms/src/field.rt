@@ -19,6 +19,9 @@ fn of_time(tag: &[u8], f: &[u8], samples: &[u8; SAMPLES]) -> u64 {
     if texts::same(tag, b"date    ") {
         return told(times::is_real_date(f));
     }
+    if texts::same(tag, b"seconds ") {
+        return crate::seconds::number(f);
+    }
     of_list(tag, f, samples)
 }
 

@@ -13,6 +13,7 @@ mod field;
 mod file;
 mod given;
 mod line;
+mod seconds;
 mod tell;
 
 fn answer(line: &mut [u8], samples: &mut [u8; SAMPLES]) {
@@ -33,6 +34,9 @@ fn answer(line: &mut [u8], samples: &mut [u8; SAMPLES]) {
         texts::field(line, 10, 65536),
         samples,
     ));
+    if texts::same(texts::field(line, 1, 8), b"seconds ") {
+        seconds::tell_behind(texts::field(line, 10, 65536));
+    }
 }
 
 // A line is told as it was read, and its marks are turned before it is answered.

@@ -31,6 +31,15 @@ pub fn at_most(n: usize, most: usize) -> usize
     most
 }
 
+// The offset that stands in front of a vector: a sign, + or -, and four digits of minutes.
+pub fn offset_in(f: &[u8]) -> i64 {
+    let minutes = at_most(number_in(texts::field(f, 2, 5)), 9999) as i64;
+    if texts::same(texts::field(f, 1, 1), b"-") {
+        return -minutes;
+    }
+    minutes
+}
+
 // The slot of each letter before the first -, one behind the other; how many bytes they have.
 pub fn lay_slots(to: &mut [u8], samples: &[u8; SAMPLES], letters: &[u8]) -> usize
     requires { ⌜ 5 * slotLength ≤ length (now to) ⌝ }

@@ -1,6 +1,7 @@
 // An import, from one line: mode, reception, rows, register and HGV by their letters, the length of the HGC's buffer, the
 // HGV's where it is not its own, and a place of the HGV changed. Answered are the four numbers and, where the first is 0,
-// the register after it and the HGC. The first number is handed back; aloud, all is told.
+// the register after it and the HGC. The first number is handed back; aloud, all is told. `local` has the offset in front of
+// the same fields, and a blank.
 ghost use Prim.Native.Nat.{_≤_};
 ghost use lib.ListN.{length};
 use crate::blocks::REGISTER;
@@ -9,6 +10,7 @@ use crate::blocks::is_laid;
 use crate::blocks::lay_file;
 use crate::blocks::lay_slots;
 use crate::blocks::number_in;
+use crate::blocks::offset_in;
 use crate::blocks::sent_length;
 use importer::Imported;
 use libc::STDOUT_FILENO;
@@ -41,6 +43,7 @@ fn lay_rows(to: &mut [u8], samples: &[u8; SAMPLES], letters: &[u8]) -> usize
 }
 
 fn imported(
+    offset: i64,
     f: &[u8],
     samples: &[u8; SAMPLES],
     register: &mut [u8],
@@ -52,6 +55,7 @@ fn imported(
     importer::import(
         number_in(texts::field(f, 1, 1)) as u64,
         texts::field(f, 3, 16),
+        offset,
         register,
         &rows[0..end],
         hgv,
@@ -81,6 +85,7 @@ fn tell_import(f: &[u8], samples: &[u8; SAMPLES], r: Imported, register: &[u8], 
 }
 
 fn with_blocks(
+    offset: i64,
     f: &[u8],
     samples: &[u8; SAMPLES],
     register: &mut [u8],
@@ -88,19 +93,20 @@ fn with_blocks(
     hgc: &mut [u8],
     aloud: bool,
 ) -> u64 {
-    let r = imported(f, samples, register, hgv, hgc);
+    let r = imported(offset, f, samples, register, hgv, hgc);
     if aloud {
         tell_import(f, samples, r, register, hgc);
     }
     r.number
 }
 
-fn with_file(f: &[u8], samples: &[u8; SAMPLES], hgv: &[u8], aloud: bool) -> u64 {
+fn with_file(offset: i64, f: &[u8], samples: &[u8; SAMPLES], hgv: &[u8], aloud: bool) -> u64 {
     let mut register = [0u8; REGISTER];
     let mut hgc = [UNWRITTEN; 704];
     let end = lay_slots(&mut register, samples, texts::field(f, 20, 23));
     let room = at_most(number_in(texts::field(f, 31, 34)), 704);
     with_blocks(
+        offset,
         f,
         samples,
         &mut register[0..end],
@@ -110,10 +116,18 @@ fn with_file(f: &[u8], samples: &[u8; SAMPLES], hgv: &[u8], aloud: bool) -> u64 
     )
 }
 
-pub fn of_import(f: &[u8], samples: &[u8; SAMPLES], aloud: bool) -> u64 {
+fn import_at(offset: i64, f: &[u8], samples: &[u8; SAMPLES], aloud: bool) -> u64 {
     let mut hgv = [0u8; 704];
     let own = lay_file(&mut hgv, samples, texts::field(f, 25, 29));
     vectors::change(&mut hgv, texts::field(f, 41, 65536));
     let length = sent_length(texts::field(f, 36, 39), own);
-    with_file(f, samples, texts::field(&hgv, 1, length), aloud)
+    with_file(offset, f, samples, texts::field(&hgv, 1, length), aloud)
+}
+
+pub fn of_import(f: &[u8], samples: &[u8; SAMPLES], aloud: bool) -> u64 {
+    import_at(0, f, samples, aloud)
+}
+
+pub fn of_local(f: &[u8], samples: &[u8; SAMPLES], aloud: bool) -> u64 {
+    import_at(offset_in(f), texts::field(f, 7, 65536), samples, aloud)
 }

@@ -29,6 +29,16 @@ fn of_swept(tag: &[u8], f: &[u8], samples: &[u8; SAMPLES], aloud: bool) -> u64 {
     found::of_register(tag, f, samples, aloud)
 }
 
+fn of_local(tag: &[u8], f: &[u8], samples: &[u8; SAMPLES], aloud: bool) -> u64 {
+    if texts::same(tag, b"local   ") {
+        return imports::of_local(f, samples, aloud);
+    }
+    if texts::same(tag, b"utc     ") {
+        return pairs::of_utc(f, samples, aloud);
+    }
+    of_swept(tag, f, samples, aloud)
+}
+
 fn of_pair(tag: &[u8], f: &[u8], samples: &[u8; SAMPLES], aloud: bool) -> u64 {
     if texts::same(tag, b"readback") {
         return pairs::of_read(f, samples, aloud);
@@ -36,7 +46,7 @@ fn of_pair(tag: &[u8], f: &[u8], samples: &[u8; SAMPLES], aloud: bool) -> u64 {
     if texts::same(tag, b"update  ") {
         return pairs::of_update(f, samples, aloud);
     }
-    of_swept(tag, f, samples, aloud)
+    of_local(tag, f, samples, aloud)
 }
 
 // The first number of a vector's answer; aloud, all of it is told.

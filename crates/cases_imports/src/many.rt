@@ -63,6 +63,7 @@ fn import_lines(
     let r = importer::import(
         1,
         b"20250310050000",
+        0,
         &mut register,
         b"97990012      0816900123",
         texts::field(hgv, 1, HEADER + n * LINE + FOOTER),

@@ -1,6 +1,6 @@
 // An HGV and its HGC, by their letters: the length of each where it is not its own, and a place of the HGV (V) or of the HGC
 // (C) changed. An HGC is read back into a block of so many bytes, or a copy is updated in a mode. The first number of the
-// answer is handed back; aloud, all is told.
+// answer is handed back; aloud, all is told. `utc` has the offset in front of the same fields as an update, and a blank.
 ghost use Prim.Native.Nat.{_≤_};
 ghost use lib.ListN.{length};
 use crate::blocks::REGISTER;
@@ -10,6 +10,7 @@ use crate::blocks::lay_file;
 use crate::blocks::lay_hgc;
 use crate::blocks::lay_slots;
 use crate::blocks::number_in;
+use crate::blocks::offset_in;
 use crate::blocks::sent_length;
 use libc::STDOUT_FILENO;
 use provider::Counted;
@@ -103,6 +104,7 @@ fn tell_copy(r: Counted, f: &[u8], samples: &[u8; SAMPLES], copy: &[u8]) {
 }
 
 fn update_copy(
+    offset: i64,
     f: &[u8],
     samples: &[u8; SAMPLES],
     copy: &mut [u8],
@@ -111,30 +113,46 @@ fn update_copy(
     aloud: bool,
 ) -> u64 {
     let mode = number_in(texts::field(f, 1, 1)) as u64;
-    let r = updating::update(mode, copy, hgv, hgc);
+    let r = updating::update(mode, offset, copy, hgv, hgc);
     if aloud {
         tell_copy(r, f, samples, copy);
     }
     r.number
 }
 
-fn update(f: &[u8], samples: &[u8; SAMPLES], hgv: &[u8], hgc: &[u8], aloud: bool) -> u64 {
+fn update(
+    offset: i64,
+    f: &[u8],
+    samples: &[u8; SAMPLES],
+    hgv: &[u8],
+    hgc: &[u8],
+    aloud: bool,
+) -> u64 {
     let mut copy = [0u8; REGISTER];
     let end = lay_slots(&mut copy, samples, texts::field(f, 3, 6));
-    update_copy(f, samples, &mut copy[0..end], hgv, hgc, aloud)
+    update_copy(offset, f, samples, &mut copy[0..end], hgv, hgc, aloud)
 }
 
-pub fn of_update(f: &[u8], samples: &[u8; SAMPLES], aloud: bool) -> u64 {
+fn update_at(offset: i64, f: &[u8], samples: &[u8; SAMPLES], aloud: bool) -> u64 {
     let mut hgv = [0u8; 704];
     let mut hgc = [0u8; 704];
     let pair = texts::field(f, 8, 65536);
     let sent = lay_sent(&mut hgv, samples, pair);
     let back = lay_back(&mut hgc, samples, pair);
     update(
+        offset,
         f,
         samples,
         texts::field(&hgv, 1, sent),
         texts::field(&hgc, 1, back),
         aloud,
     )
+}
+
+pub fn of_update(f: &[u8], samples: &[u8; SAMPLES], aloud: bool) -> u64 {
+    update_at(0, f, samples, aloud)
+}
+
+pub fn of_utc(f: &[u8], samples: &[u8; SAMPLES], aloud: bool) -> u64 {
+    update_at(offset_in(f), texts::field(f, 7, 65536), samples, aloud)
 }
