@@ -8,8 +8,8 @@ use Rattle.calendar.specs.Calendar.{realDay, realMoment, secs, momentAt}
 abbrev pub IsDay : ℕ → ℕ → ℕ → Bool → Type 0
 IsDay y m d r = r ≡ realDay y m d
 
-abbrev pub IsMoment : Moment → Bool → Type 0
-IsMoment x r = r ≡ realMoment (x .year) (x .month) (x .day) (x .hour) (x .minute) (x .second)
+abbrev pub IsMoment : ℕ → ℕ → ℕ → ℕ → ℕ → ℕ → Bool → Type 0
+IsMoment y m d h i s r = r ≡ realMoment y m d h i s
 
 abbrev pub Seconds : Moment → ℕ → Type 0
 Seconds x r = r ≡ secs (x .year) (x .month) (x .day) (x .hour) (x .minute) (x .second)

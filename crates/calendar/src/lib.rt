@@ -55,10 +55,10 @@ fn is_clock(h: u64, i: u64, s: u64) -> bool
     (h <= 23) & (i <= 59) & (s <= 59)
 }
 
-pub fn is_moment(x: Moment) -> bool
-    ensures { λ r. ⌜ IsMoment x r ⌝ }
+pub fn is_moment(y: u64, m: u64, d: u64, h: u64, i: u64, s: u64) -> bool
+    ensures { λ r. ⌜ IsMoment y m d h i s r ⌝ }
 {
-    is_day(x.year, x.month, x.day) & is_clock(x.hour, x.minute, x.second)
+    is_day(y, m, d) & is_clock(h, i, s)
 }
 
 // The days of the first n years: 365 in each, and one for each leap year among them.

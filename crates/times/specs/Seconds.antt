@@ -11,10 +11,6 @@ use Rattle.times.specs.declared.Time.{Time}
 use Rattle.times.specs.declared.Time.the-variants.{Real, Unreal}
 use Rattle.times.specs.Time.{year, month, day, hour, minute, second, realTime}
 
--- the six numbers of a text
-unfoldable pub momentOf : List ℕ → Moment
-momentOf t = record { year = year t; month = month t; day = day t; hour = hour t; minute = minute t; second = second t }
-
 -- the seconds from 00010101000000 to a real time
 unfoldable pub seconds : List ℕ → ℕ
 seconds t = secs (year t) (month t) (day t) (hour t) (minute t) (second t)

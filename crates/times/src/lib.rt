@@ -7,7 +7,6 @@ ghost use Rattle.numbers.specs.Number.{number};
 ghost use Rattle.sizes.specs.Sizes.{timeLength};
 ghost use Rattle.calendar.specs.Calendar.{allSeconds};
 ghost use Rattle.calendar.specs.laws.Order.{stamp};
-ghost use Rattle.times.specs.Seconds.{momentOf};
 ghost use Rattle.times.specs.laws.Back.{Fits};
 ghost use Rattle.times.specs.Promises.{TimeOf, IsRealTime, IsRealDate, IsEarlier, WriteTime};
 
@@ -25,29 +24,29 @@ fn number_at(t: &[u8], from: usize, to: usize) -> u64
     numbers::number(texts::field(t, from, to))
 }
 
-// The six numbers of a text.
-fn moment(t: &[u8]) -> calendar::Moment
-    ensures { λ r. ⌜ r ≡ momentOf (now (t .entry)) ⌝ }
-{
-    calendar::Moment {
-        year: number_at(t, 1, 4),
-        month: number_at(t, 5, 6),
-        day: number_at(t, 7, 8),
-        hour: number_at(t, 9, 10),
-        minute: number_at(t, 11, 12),
-        second: number_at(t, 13, 14),
-    }
-}
-
 // Is a text a real time, and how many seconds after 00010101000000 is it.
 pub fn time_of(t: &[u8]) -> Time
     ensures { λ r. ⌜ TimeOf (now (t .entry)) r ⌝ }
 {
-    let x = moment(t);
-    if fields::is_digits(t, sizes::TIME) & calendar::is_moment(x) {
-        return Time::Real(calendar::seconds(x));
+    let year = number_at(t, 1, 4);
+    let month = number_at(t, 5, 6);
+    let day = number_at(t, 7, 8);
+    let hour = number_at(t, 9, 10);
+    let minute = number_at(t, 11, 12);
+    let second = number_at(t, 13, 14);
+    let real = calendar::is_moment(year, month, day, hour, minute, second);
+    if !(fields::is_digits(t, sizes::TIME) & real) {
+        return Time::Unreal;
     }
-    Time::Unreal
+    let x = calendar::Moment {
+        year,
+        month,
+        day,
+        hour,
+        minute,
+        second,
+    };
+    Time::Real(calendar::seconds(x))
 }
 
 pub fn is_real_time(t: &[u8]) -> bool

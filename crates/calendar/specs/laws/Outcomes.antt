@@ -9,8 +9,8 @@ use Rattle.calendar.specs.Promises.{IsDay, IsMoment, Seconds, MomentAt}
 pub is-day-one : (y m d : ℕ) (r s : Bool) → IsDay y m d r → IsDay y m d s → r ≡ s
 is-day-one y m d r s = one-outcome
 
-pub is-moment-one : (x : Moment) (r s : Bool) → IsMoment x r → IsMoment x s → r ≡ s
-is-moment-one x r s = one-outcome
+pub is-moment-one : (y m d h i s : ℕ) (r r′ : Bool) → IsMoment y m d h i s r → IsMoment y m d h i s r′ → r ≡ r′
+is-moment-one y m d h i s r r′ = one-outcome
 
 pub seconds-one : (x : Moment) (r s : ℕ) → Seconds x r → Seconds x s → r ≡ s
 seconds-one x r s = one-outcome

@@ -10,12 +10,11 @@ use Rattle.theory.specs.laws.Truth.{and-left, and-right}
 use Rattle.theory.specs.Every.{all, run}
 use Rattle.sizes.specs.Sizes.{timeLength}
 use Rattle.fields.specs.Field.{digit}
-use Rattle.calendar.specs.declared.Moment.{Moment}
 use Rattle.calendar.specs.Calendar.{realMoment, secs}
 use Rattle.calendar.specs.Bounds.{Bounds}
 use Rattle.calendar.specs.laws.Bounds.{bounds}
 use Rattle.times.specs.Time.{year, month, day, hour, minute, second, realTime}
-use Rattle.times.specs.Seconds.{momentOf, seconds}
+use Rattle.times.specs.Seconds.{seconds}
 
 module _ (t : List ℕ) (real : realTime t ≡ true) where
   real-digits : run digit timeLength t ≡ true
@@ -37,16 +36,15 @@ module _ (t : List ℕ) (real : realTime t ≡ true) where
   pub real-moment : Bounds (year t) (month t) (day t) (hour t) (minute t) (second t)
   real-moment = bounds (year t) (month t) (day t) (hour t) (minute t) (second t) real-numbers
 
--- as the code asks it: of the six numbers of the text
-module _ (t : List ℕ) (x : Moment) (e : x ≡ momentOf t) where
-  pub real-asked : (a b : Bool) → a ≡ run digit timeLength t → b ≡ realMoment (x .year) (x .month) (x .day) (x .hour) (x .minute) (x .second) → a && b ≡ realTime t
-  unfolding realTime momentOf
-  real-asked a b ea eb = rw (ea, eb, e)
+-- as the code asks it, of the six numbers that it read
+module _ (t : List ℕ) (y m d h i s : ℕ) (ey : y ≡ year t) (em : m ≡ month t) (ed : d ≡ day t) (eh : h ≡ hour t) (ei : i ≡ minute t) (es : s ≡ second t) where
+  pub real-asked : (a b : Bool) → a ≡ run digit timeLength t → b ≡ realMoment y m d h i s → a && b ≡ realTime t
+  unfolding realTime
+  real-asked a b ea eb = rw (ea, eb, ey, em, ed, eh, ei, es)
 
-  pub bounds-asked : realTime t ≡ true → Bounds (x .year) (x .month) (x .day) (x .hour) (x .minute) (x .second)
-  unfolding momentOf
-  bounds-asked h = rw e (real-moment t h)
+  pub bounds-asked : realTime t ≡ true → Bounds y m d h i s
+  bounds-asked r = rw (ey, em, ed, eh, ei, es) (real-moment t r)
 
-  pub seconds-asked : secs (x .year) (x .month) (x .day) (x .hour) (x .minute) (x .second) ≡ seconds t
-  unfolding momentOf seconds
-  seconds-asked = rw e
+  pub seconds-asked : secs y m d h i s ≡ seconds t
+  unfolding seconds
+  seconds-asked = rw (ey, em, ed, eh, ei, es)

@@ -3,7 +3,7 @@ use Prim.Native.Nat.{ℕ, zero, suc, _≤_}
 use native.Mathlib.Omega.{arith}
 use lib.IntN.{pos, _-ℤ_}
 use mir.Syntax.{w64}
-use mir.Val.{toZ, SFits}
+use mir.Val.{SFits}
 use mir.ValLaws.{toZ-pos}
 use borrow.Author.Tests.{lt-ltb}
 use borrow.Author.Needs.{needs}
