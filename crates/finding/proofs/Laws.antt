@@ -1,13 +1,13 @@
 -- What the functions of this crate cite. Assumes nothing.
 use mathlib.Core.Path.{_≡_, refl, sym, _∙_}
-use mathlib.Core.Bool.{Bool, true, false, not, _&&_}
+use mathlib.Core.Bool.{Bool, true, false, not, _&&_, true≢false}
 use mathlib.Core.List.{List}
 use Prim.Native.Nat.{ℕ, zero, suc, _+_, _-_, _≤_, _<_}
 use native.Mathlib.Omega.{arith}
 use native.Mathlib.Numerals.{add-one}
 use lib.Dec.{eqb, ltb}
-use lib.ListN.{length, getD, set, length-set}
-use lib.Seq.{ext-getD, getD-set-same, getD-set-other}
+use lib.ListN.{length, getD, set, length-set, take, replicate, getD-replicate}
+use lib.Seq.{ext-getD, getD-set-same, getD-set-other, getD-take}
 use borrow.Author.Tests.{eqb-true, eqb-false, ltb-true, ltb-false, not-false}
 use Rattle.theory.specs.laws.Truth.{and-split}
 use Rattle.theory.specs.Same.{eqs}
@@ -27,10 +27,10 @@ use Rattle.keys.specs.Keys.{partsOf, keyOf, keyAt}
 use Rattle.keys.specs.Less.{less}
 use Rattle.keys.specs.laws.Less.{less-trans, less-no}
 use Rattle.sorting.specs.Counts.{counts}
-use Rattle.sorting.specs.laws.Ranks.{any-two, one-rank}
+use Rattle.sorting.specs.laws.Ranks.{any-two}
 use Rattle.ordering.specs.Ranks.{ranked}
-use Rattle.finding.specs.Places.{hasKey, placeFor}
-use Rattle.finding.specs.laws.Sorted.{Rises, Sorted}
+use Rattle.finding.specs.Places.{hasKey, placeFor, firstFor}
+use Rattle.finding.specs.laws.Sorted.{Follows, higher, same, Rises, Sorted, Led}
 
 -- ---- the tests, with the code's values as equations
 
@@ -50,29 +50,64 @@ pub key-found : (keys : Keys) (b : List ℕ) (i : ℕ) (s t : List ℕ) → s �
 unfolding keyAt
 key-found keys b i s t p r e = e ∙ rw p
 
--- ---- each key is less than the next
+-- ---- each part comes behind the one ahead of it
 
-module _ (keys : Keys) (b o : List ℕ) where
-  pub rises-start : Rises keys b o 0
-  rises-start = record { next = λ i h l. absurd (omega arith) }
+-- k and j are the keys of the parts a and c, and r says whether the first is less
+pub next-higher : (keys : Keys) (b : List ℕ) (a c : ℕ) (k j : List ℕ) → k ≡ keyAt keys b a → j ≡ keyAt keys b c → (r : Bool) → r ≡ less k j → r ≡ true → Follows keys b a c
+next-higher keys b a c k j p q r e h = higher (found-less k j (keyAt keys b a) (keyAt keys b c) p q r e h)
 
-  module _ (i : ℕ) (u : Rises keys b o i) where
-    -- t is the key at i, and r says whether the one ahead is less
-    pub rises-on : (t : List ℕ) → t ≡ keyAt keys b (getD o i 0) → (r : Bool) → (r ≡ true → 0 < i → less (keyAt keys b (getD o (i - 1) 0)) t ≡ true) → not r ≡ false
-        → Rises keys b o (i + 1)
-    rises-on t p r e q = record { next = λ j h l. go j (eqb j i) refl h l }
-      where
-        go : (j : ℕ) (s : Bool) → eqb j i ≡ s → 0 < j → j < i + 1 → less (keyAt keys b (getD o (j - 1) 0)) (keyAt keys b (getD o j 0)) ≡ true
-        go j true d h l = let f : j ≡ i = eqb-true j i d in rw (f, ← p) (e (not-false r q) (rw (← f) h))
-        go j false d h l = u .next j h (omega (arith, eqb-false j i d))
+-- r says whether they are the same; x and y are the places
+pub next-same : (keys : Keys) (b : List ℕ) (a c : ℕ) (k j : List ℕ) → k ≡ keyAt keys b a → j ≡ keyAt keys b c → (r : Bool) → r ≡ eqs k j → (x y : ℕ) → x ≡ a → y ≡ c
+    → r && ltb x y ≡ true → Follows keys b a c
+next-same keys b a c k j p q r e x y f g h =
+    let (s, l) = and-split r (ltb x y) h in
+    same (sym p ∙ eqs-true k j (sym e ∙ s) ∙ q) (rw (← f, ← g) (ltb-true x y l))
 
-    pub rises-end : (n : ℕ) → n ≤ i → Rises keys b o n
-    rises-end n h = record { next = λ j g l. u .next j g (omega arith) }
+module _ (keys : Keys) (b o : List ℕ) (n : ℕ) where
+  pub rises-start : Rises keys b o n 0
+  rises-start = record { within = λ j l. absurd (omega arith); next = λ j h l. absurd (omega arith) }
+
+  -- r says whether the part at i comes behind the one ahead of it
+  pub rises-on : (i : ℕ) → Rises keys b o n i → getD o i 0 < n → (r : Bool) → (r ≡ true → 0 < i → Follows keys b (getD o (i - 1) 0) (getD o i 0)) → not r ≡ false
+      → Rises keys b o n (i + 1)
+  rises-on i u w r e q = record { within = λ j l. inside j (eqb j i) refl l; next = λ j h l. go j (eqb j i) refl h l }
+    where
+      inside : (j : ℕ) (s : Bool) → eqb j i ≡ s → j < i + 1 → getD o j 0 < n
+      inside j true d l = rw (eqb-true j i d) w
+      inside j false d l = u .within j (omega (arith, eqb-false j i d))
+
+      go : (j : ℕ) (s : Bool) → eqb j i ≡ s → 0 < j → j < i + 1 → Follows keys b (getD o (j - 1) 0) (getD o j 0)
+      go j true d h l = let f : j ≡ i = eqb-true j i d in rw f (e (not-false r q) (rw (← f) h))
+      go j false d h l = u .next j h (omega (arith, eqb-false j i d))
+
+  pub rises-end : (i : ℕ) → Rises keys b o n i → n ≤ i → Rises keys b o n n
+  rises-end i u h = record { within = λ j l. u .within j (omega arith); next = λ j g l. u .next j g (omega arith) }
+
+module _ (keys : Keys) (b : List ℕ) where
+  follows-trans : (a c d : ℕ) → Follows keys b a c → Follows keys b c d → Follows keys b a d
+  follows-trans a c d (higher p) (higher q) = higher (less-trans _ _ _ p q)
+  follows-trans a c d (higher p) (same e l) = higher (rw e at p)
+  follows-trans a c d (same e l) (higher q) = higher (rw e q)
+  follows-trans a c d (same e l) (same f m) = same (e ∙ f) (omega arith)
+
+  -- what is less than a text, or higher, stays so
+  follows-low : (t : List ℕ) (a c : ℕ) → Follows keys b a c → less (keyAt keys b c) t ≡ true → less (keyAt keys b a) t ≡ true
+  follows-low t a c (higher p) q = less-trans _ _ _ p q
+  follows-low t a c (same e l) q = rw e q
+
+  follows-high : (t : List ℕ) (a c : ℕ) → Follows keys b a c → less t (keyAt keys b a) ≡ true → less t (keyAt keys b c) ≡ true
+  follows-high t a c (higher p) q = less-trans _ _ _ q p
+  follows-high t a c (same e l) q = rw e at q
+
+  -- a part with the same key does not stand in front of the one that it comes behind
+  follows-no : (t : List ℕ) (a c : ℕ) → Follows keys b a c → keyAt keys b a ≡ t → keyAt keys b c ≡ t → c < a → ⊥
+  follows-no t a c (higher p) e f l = less-no _ (rw (e, f) at p)
+  follows-no t a c (same q m) e f l = omega arith
 
 -- ---- a sorted order
 
 -- every part counts
-pub order-sorted : (keys : Keys) (b vs o ks : List ℕ) (r : Bool) → (r ≡ true → Rises keys b o (length vs)) → (d : Bool) → d ≡ below (ranked true vs o ks (length vs)) (length vs)
+pub order-sorted : (keys : Keys) (b vs o ks : List ℕ) (r : Bool) → (r ≡ true → Rises keys b o (length vs) (length vs)) → (d : Bool) → d ≡ below (ranked true vs o ks (length vs)) (length vs)
     → r && d ≡ true → Sorted keys b o (length vs)
 unfolding ranked counts
 order-sorted keys b vs o ks r f d c e =
@@ -113,54 +148,145 @@ module _ (keys : Keys) (b : List ℕ) (n : ℕ) (t : List ℕ) where
     abbrev at : ℕ → List ℕ
     at i = keyAt keys b (getD o i 0)
 
-    between : (i j : ℕ) → i < j → j < n → less (at i) (at j) ≡ true
+    between : (i j : ℕ) → i < j → j < n → Follows keys b (getD o i 0) (getD o j 0)
     between =
-        any-two (λ i j. less (at i) (at j) ≡ true) (λ i j d. less-trans (at i) (at j) (at d)) n
+        any-two (λ i j. Follows keys b (getD o i 0) (getD o j 0)) (λ i j d. follows-trans keys b _ _ _) n
         (λ i l. let e : i + 1 - 1 ≡ i = omega arith in rw e at (s .rises .next (i + 1) (omega arith) l))
 
-    apart : (a c : ℕ) → a < c → c < n → keyAt keys b a ≡ keyAt keys b c → ⊥
-    apart a c l h e =
-        let (x, at-a) = s .ranked a (omega arith) in
-        let (y, at-c) = s .ranked c h in
-        one-rank o a c _ _ at-a at-c l (λ p. less-no _ (rw (at-a, at-c, e) at (between _ _ p y))) (λ p. less-no _ (rw (at-a, at-c, e) at (between _ _ p x)))
-
-    -- the part a has the key
-    pub found-here : (a : ℕ) → a < n → keyAt keys b a ≡ t → a ≡ place has (chop w n b)
-    unfolding keyAt
-    found-here a h e =
-        placing-off has w n b a (passed a (omega arith) (λ c l q. apart c a l h (q ∙ sym e))) h (partAt w a b) refl true (sym (eq-eqs (keyOf keys (partAt w a b)) t e)) refl
-
-    -- the key stands neither in front of the rank q nor from there on
-    module _ (q : ℕ) (h : q ≤ n) (ahead : 0 < q → less (at (q - 1)) t ≡ true) (behind : q < n → less t (at q) ≡ true) where
-      lower : (i : ℕ) → i < q → less (at i) t ≡ true
-      lower i l = go (ltb i (q - 1)) refl
+    -- the keys ahead of the rank q are less
+    module _ (q : ℕ) (h : q ≤ n) (ahead : 0 < q → less (at (q - 1)) t ≡ true) where
+      low : (i : ℕ) → i < q → less (at i) t ≡ true
+      low i l = go (ltb i (q - 1)) refl
         where
           go : (r : Bool) → ltb i (q - 1) ≡ r → less (at i) t ≡ true
-          go true e = less-trans _ (at (q - 1)) _ (between i (q - 1) (ltb-true i (q - 1) e) (omega arith)) (ahead (omega arith))
+          go true e = follows-low keys b t _ _ (between i (q - 1) (ltb-true i (q - 1) e) (omega arith)) (ahead (omega arith))
           go false e = let f : q - 1 ≡ i = omega (arith, ltb-false i (q - 1) e) in rw f at (ahead (omega arith))
 
-      higher : (i : ℕ) → q ≤ i → i < n → less t (at i) ≡ true
-      higher i l k = go (ltb q i) refl
+      -- and the part there has the key: it is the first
+      module _ (l : q < n) (here : at q ≡ t) where
+        not-before : (c : ℕ) → c < getD o q 0 → c < n → keyAt keys b c ≡ t → ⊥
+        not-before c m k e = go (ltb x q) refl (ltb q x) refl
+          where
+            x : ℕ
+            x = getD (s .ranks) c 0
+
+            at-c : (x < n) × (getD o x 0 ≡ c)
+            at-c = s .ranked c k
+
+            go : (r : Bool) → ltb x q ≡ r → (u : Bool) → ltb q x ≡ u → ⊥
+            go true p u v = less-no _ (rw (at-c .1, e) at (low x (ltb-true x q p)))
+            go false p true v = follows-no keys b t (getD o q 0) c (rw (at-c .1) at (between q x (ltb-true q x v) (at-c .0))) here e m
+            go false p false v =
+                let f : x ≡ q = omega (arith, ltb-false x q p, ltb-false q x v) in
+                let g : getD o q 0 ≡ c = rw (← f) (at-c .1) in
+                omega arith
+
+        pub found-here : getD o q 0 ≡ place has (chop w n b)
+        unfolding keyAt
+        found-here =
+            let a : ℕ = getD o q 0 in
+            let k : a < n = s .rises .within q l in
+            placing-off has w n b a (passed a (omega arith) (λ c m e. not-before c m (omega arith) e)) k (partAt w a b) refl true (sym (eq-eqs (keyOf keys (partAt w a b)) t here)) refl
+
+      -- it does not stand from there on either
+      module _ (behind : q < n → less t (at q) ≡ true) where
+        high : (i : ℕ) → q ≤ i → i < n → less t (at i) ≡ true
+        high i l k = go (ltb q i) refl
+          where
+            go : (r : Bool) → ltb q i ≡ r → less t (at i) ≡ true
+            go true e = follows-high keys b t _ _ (between q i (ltb-true q i e) k) (behind (omega arith))
+            go false e = let f : q ≡ i = omega (arith, ltb-false q i e) in rw f at (behind (omega arith))
+
+        nowhere : (a : ℕ) → a < n → keyAt keys b a ≡ t → ⊥
+        nowhere a l e = go (ltb x q) refl
+          where
+            x : ℕ
+            x = getD (s .ranks) a 0
+
+            at-a : (x < n) × (getD o x 0 ≡ a)
+            at-a = s .ranked a l
+
+            go : (r : Bool) → ltb x q ≡ r → ⊥
+            go true p = less-no _ (rw (at-a .1, e) at (low x (ltb-true x q p)))
+            go false p = less-no _ (rw (at-a .1, e) at (high x (ltb-false x q p) (at-a .0)))
+
+        pub found-nowhere : n ≡ place has (chop w n b)
+        found-nowhere = placing-end has w n b n (passed n (omega arith) nowhere) (omega arith)
+
+-- ---- the first that has the key of a part
+
+module _ (keys : Keys) (n : ℕ) (b o : List ℕ) (s : Sorted keys b o n) where
+  -- x is the place at the rank i: it lies in the block
+  pub place-within : (j : ℕ) (found : List ℕ) → Led keys n b o j found → (i : ℕ) → i < n → (x : ℕ) → x ≡ getD o i 0 → x < length found
+  place-within j found v i l x f = rw (f, v .size) (s .rises .within i l)
+
+  -- t and u are the keys at a rank and ahead of it, and r says whether they are the same
+  module _ (i : ℕ) (l : i < n) (found : List ℕ) (v : Led keys n b o i found) where
+    pub lead-start : i ≡ 0 → getD o i 0 ≡ firstFor keys n b (getD o i 0)
+    unfolding firstFor
+    lead-start z = found-here keys b n (keyAt keys b (getD o i 0)) o s i (omega arith) (λ h. absurd (omega arith)) l refl
+
+    module _ (h : i ≡ 0 → ⊥) (u t : List ℕ) (p : u ≡ keyAt keys b (getD o (i - 1) 0)) (q : t ≡ keyAt keys b (getD o i 0)) (r : Bool) (e : r ≡ eqs u t) where
+      -- then it is the same part
+      pub lead-same : r ≡ true → (x : ℕ) → x ≡ getD o (i - 1) 0 → getD found x 0 ≡ firstFor keys n b (getD o i 0)
+      unfolding firstFor
+      lead-same g x f =
+          let k : keyAt keys b (getD o (i - 1) 0) ≡ keyAt keys b (getD o i 0) = sym p ∙ eqs-true u t (sym e ∙ g) ∙ q in
+          rw (f, ← k) (v .told (i - 1) (omega arith))
+
+      -- else it is the part itself
+      pub lead-other : r ≡ false → getD o i 0 ≡ firstFor keys n b (getD o i 0)
+      unfolding firstFor
+      lead-other g = found-here keys b n (keyAt keys b (getD o i 0)) o s i (omega arith) (λ _. go (s .rises .next i (omega arith) l)) l refl
         where
-          go : (r : Bool) → ltb q i ≡ r → less t (at i) ≡ true
-          go true e = less-trans _ (at q) _ (behind (omega arith)) (between q i (ltb-true q i e) k)
-          go false e = let f : q ≡ i = omega (arith, ltb-false q i e) in rw f at (behind (omega arith))
+          go : Follows keys b (getD o (i - 1) 0) (getD o i 0) → less (keyAt keys b (getD o (i - 1) 0)) (keyAt keys b (getD o i 0)) ≡ true
+          go (higher m) = m
+          go (same k m) = absurd (true≢false (sym (eq-eqs u t (p ∙ k ∙ sym q)) ∙ sym e ∙ g))
 
-      nowhere : (a : ℕ) → a < n → keyAt keys b a ≡ t → ⊥
-      nowhere a l e = go (ltb x q) refl
+  pub led-start : (found : List ℕ) → length found ≡ n → Led keys n b o 0 found
+  led-start found z = record { size = z; told = λ j l. absurd (omega arith) }
+
+  -- x is the place at the rank i, and y the first that has its key
+  pub led-turn : (i : ℕ) (found : List ℕ) → Led keys n b o i found → i < n → (x : ℕ) → x ≡ getD o i 0 → (y : ℕ) → y ≡ firstFor keys n b (getD o i 0)
+      → Led keys n b o (i + 1) (set found x y)
+  led-turn i found v l x f y g = record { size = length-set found x y ∙ v .size; told = λ j m. go j (eqb (getD o j 0) x) refl m }
+    where
+      go : (j : ℕ) (r : Bool) → eqb (getD o j 0) x ≡ r → j < i + 1 → getD (set found x y) (getD o j 0) 0 ≡ firstFor keys n b (getD o j 0)
+      go j true d m =
+          let k : getD o j 0 ≡ x = eqb-true (getD o j 0) x d in
+          rw k (getD-set-same found x y 0 (place-within i found v i l x f) ∙ g ∙ rw f)
+      go j false d m =
+          let k = eqb-false (getD o j 0) x d in
+          getD-set-other found x (getD o j 0) y 0 k ∙ v .told j (earlier (eqb j i) refl k)
         where
-          x : ℕ
-          x = getD (s .ranks) a 0
+          earlier : (r : Bool) → eqb j i ≡ r → (getD o j 0 ≡ x → ⊥) → j < i
+          earlier true z k = absurd (k (rw (f, eqb-true j i z)))
+          earlier false z k = omega (arith, eqb-false j i z)
 
-          at-a : (x < n) × (getD o x 0 ≡ a)
-          at-a = s .ranked a l
+  pub led-end : (i : ℕ) (found : List ℕ) → Led keys n b o i found → n ≤ i → found ≡ tableOf (firstFor keys n b) n
+  led-end i found v h =
+      ext-getD 0 found (tableOf (firstFor keys n b) n) (v .size ∙ sym (length-table (firstFor keys n b) n))
+      (λ a l. let m : a < n = rw (← v .size) l in
+      let (x, y) = s .ranked a m in
+      (rw y at (v .told (getD (s .ranks) a 0) (omega arith))) ∙ sym (entry (firstFor keys n b) n a m))
 
-          go : (r : Bool) → ltb x q ≡ r → ⊥
-          go true p = less-no _ (rw (at-a .1, e) at (lower x (ltb-true x q p)))
-          go false p = less-no _ (rw (at-a .1, e) at (higher x (ltb-false x q p) (at-a .0)))
+-- where the parts themselves are the lines, and each is marked 0
+module _ (keys : Keys) (n m : ℕ) (h : n ≤ m) (b : List ℕ) where
+  abbrev zeros : List ℕ
+  zeros = take n (replicate m 0)
 
-      pub found-nowhere : n ≡ place has (chop w n b)
-      found-nowhere = placing-end has w n b n (passed n (omega arith) nowhere) (omega arith)
+  abbrev among : ℕ → ℕ
+  among = placeFor (keyOf keys) (partsOf keys n b) (keyOf keys) (keys .width) b zeros
+
+  place-first : (i : ℕ) → i < n → among i ≡ firstFor keys n b i
+  unfolding placeFor firstFor keyAt good
+  place-first i l = let z : getD zeros i 0 ≡ 0 = getD-take n (replicate m 0) i 0 l ∙ getD-replicate m i 0 0 (omega arith) in rw z
+
+  pub places-firsts : (found : List ℕ) → found ≡ tableOf among n → found ≡ tableOf (firstFor keys n b) n
+  places-firsts found e =
+      let f = firstFor keys n b in
+      e ∙ ext-getD 0 (tableOf among n) (tableOf f n) (length-table among n ∙ sym (length-table f n))
+      (λ i l. let k : i < n = rw (← length-table among n) l in entry among n i k ∙ place-first i k ∙ sym (entry f n i k))
 
 -- ---- one line
 

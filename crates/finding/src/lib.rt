@@ -8,9 +8,9 @@ ghost use Rattle.sizes.specs.Sizes.{partsMost};
 ghost use Rattle.theory.specs.Place.{place};
 ghost use Rattle.keys.specs.Keys.{Forward, partsOf, keyOf, keyAt};
 ghost use Rattle.keys.specs.Less.{less};
-ghost use Rattle.finding.specs.Places.{hasKey, placeFor};
-ghost use Rattle.finding.specs.laws.Sorted.{Rises, Sorted};
-ghost use Rattle.finding.specs.Promises.{Places};
+ghost use Rattle.finding.specs.Places.{hasKey, placeFor, firstFor};
+ghost use Rattle.finding.specs.laws.Sorted.{Follows, Rises, Sorted, Led};
+ghost use Rattle.finding.specs.Promises.{Places, PlacesBy, Firsts};
 use keys::Keys;
 use sizes::PARTS_MOST;
 
@@ -24,8 +24,8 @@ fn wide(x: u16) -> usize
 }
 
 // Stands the place of a part at this rank.
-fn has_part(n: usize, order: &[u16; PARTS_MOST], rank: usize) -> bool
-    requires { ⌜ n ≤ partsMost ⌝ }
+fn has_part(n: usize, order: &[u16], rank: usize) -> bool
+    requires { ⌜ n ≤ length (now order) ⌝ }
     ensures { λ r. ⌜ (r ≡ true → (rank < n) × (getD (now (order .entry)) rank 0 < n)) ⌝ }
 {
     if n <= rank {
@@ -34,16 +34,16 @@ fn has_part(n: usize, order: &[u16; PARTS_MOST], rank: usize) -> bool
     wide(order[rank]) < n
 }
 
-fn key_at<'a>(b: &'a [u8], keys: Keys, n: usize, order: &[u16; PARTS_MOST], rank: usize) -> &'a [u8]
-    requires { ⌜ (n * keys .width ≤ length (now b)) × Forward keys × (n ≤ partsMost) × (rank < n) × (getD (now order) rank 0 < n) ⌝ }
+fn key_at<'a>(b: &'a [u8], keys: Keys, n: usize, order: &[u16], rank: usize) -> &'a [u8]
+    requires { ⌜ (n * keys .width ≤ length (now b)) × Forward keys × (n ≤ length (now order)) × (rank < n) × (getD (now order) rank 0 < n) ⌝ }
     ensures { λ r. ⌜ now r ≡ keyAt keys (now (b .entry)) (getD (now (order .entry)) rank 0) ⌝ }
 {
     keys::key(b, keys, wide(order[rank]))
 }
 
 // Has the part at this rank the key t.
-fn is_here(b: &[u8], keys: Keys, n: usize, order: &[u16; PARTS_MOST], rank: usize, t: &[u8]) -> bool
-    requires { ⌜ (n * keys .width ≤ length (now b)) × Forward keys × (n ≤ partsMost) ⌝ }
+fn is_here(b: &[u8], keys: Keys, n: usize, order: &[u16], rank: usize, t: &[u8]) -> bool
+    requires { ⌜ (n * keys .width ≤ length (now b)) × Forward keys × (n ≤ length (now order)) ⌝ }
     ensures { λ r. ⌜ (r ≡ true → (rank < n) × (getD (now (order .entry)) rank 0 < n) × (keyAt keys (now (b .entry)) (getD (now (order .entry)) rank 0) ≡ now (t .entry))) ⌝ }
 {
     if !has_part(n, order, rank) {
@@ -53,15 +53,8 @@ fn is_here(b: &[u8], keys: Keys, n: usize, order: &[u16; PARTS_MOST], rank: usiz
 }
 
 // Is the key ahead of this rank less than t, or is there none.
-fn is_ahead(
-    b: &[u8],
-    keys: Keys,
-    n: usize,
-    order: &[u16; PARTS_MOST],
-    rank: usize,
-    t: &[u8],
-) -> bool
-    requires { ⌜ (n * keys .width ≤ length (now b)) × Forward keys × (n ≤ partsMost) ⌝ }
+fn is_ahead(b: &[u8], keys: Keys, n: usize, order: &[u16], rank: usize, t: &[u8]) -> bool
+    requires { ⌜ (n * keys .width ≤ length (now b)) × Forward keys × (n ≤ length (now order)) ⌝ }
     ensures { λ r. ⌜ (r ≡ true → 0 < rank → less (keyAt keys (now (b .entry)) (getD (now (order .entry)) (rank - 1) 0)) (now (t .entry)) ≡ true) ⌝ }
 {
     if rank == 0 {
@@ -75,15 +68,8 @@ fn is_ahead(
 }
 
 // Is t less than the key at this rank, or is there none.
-fn is_behind(
-    b: &[u8],
-    keys: Keys,
-    n: usize,
-    order: &[u16; PARTS_MOST],
-    rank: usize,
-    t: &[u8],
-) -> bool
-    requires { ⌜ (n * keys .width ≤ length (now b)) × Forward keys × (n ≤ partsMost) ⌝ }
+fn is_behind(b: &[u8], keys: Keys, n: usize, order: &[u16], rank: usize, t: &[u8]) -> bool
+    requires { ⌜ (n * keys .width ≤ length (now b)) × Forward keys × (n ≤ length (now order)) ⌝ }
     ensures { λ r. ⌜ (r ≡ true → rank < n → less (now (t .entry)) (keyAt keys (now (b .entry)) (getD (now (order .entry)) rank 0)) ≡ true) ⌝ }
 {
     if n <= rank {
@@ -95,17 +81,37 @@ fn is_behind(
     keys::is_less(t, key_at(b, keys, n, order, rank))
 }
 
-// Is each key in the order less than the next.
-fn rises(b: &[u8], keys: Keys, n: usize, order: &[u16; PARTS_MOST]) -> bool
-    requires { ⌜ (n * keys .width ≤ length (now b)) × Forward keys × (n ≤ partsMost) ⌝ }
-    ensures { λ r. ⌜ (r ≡ true → Rises keys (now (b .entry)) (now (order .entry)) n) ⌝ }
+// Comes the part at this rank behind the one ahead of it: its key is higher, or the same, and its place is the later one.
+fn is_next(b: &[u8], keys: Keys, n: usize, order: &[u16], rank: usize) -> bool
+    requires { ⌜ (n * keys .width ≤ length (now b)) × Forward keys × (n ≤ length (now order)) × (rank < n) × (getD (now order) rank 0 < n) ⌝ }
+    ensures { λ r. ⌜ (r ≡ true → 0 < rank → Follows keys (now (b .entry)) (getD (now (order .entry)) (rank - 1) 0) (getD (now (order .entry)) rank 0)) ⌝ }
+{
+    if rank == 0 {
+        return true;
+    }
+    let ahead = rank - 1;
+    if !has_part(n, order, ahead) {
+        return false;
+    }
+    let there = key_at(b, keys, n, order, ahead);
+    let here = key_at(b, keys, n, order, rank);
+    if keys::is_less(there, here) {
+        return true;
+    }
+    texts::same(there, here) & (wide(order[ahead]) < wide(order[rank]))
+}
+
+// Comes each part in the order behind the one ahead of it.
+fn rises(b: &[u8], keys: Keys, n: usize, order: &[u16]) -> bool
+    requires { ⌜ (n * keys .width ≤ length (now b)) × Forward keys × (n ≤ length (now order)) ⌝ }
+    ensures { λ r. ⌜ (r ≡ true → Rises keys (now (b .entry)) (now (order .entry)) n n) ⌝ }
 {
     let mut i: usize = 0;
     while i < n {
         if !has_part(n, order, i) {
             return false;
         }
-        if !is_ahead(b, keys, n, order, i, key_at(b, keys, n, order, i)) {
+        if !is_next(b, keys, n, order, i) {
             return false;
         }
         i += 1;
@@ -113,9 +119,9 @@ fn rises(b: &[u8], keys: Keys, n: usize, order: &[u16; PARTS_MOST]) -> bool
     true
 }
 
-// Sorts the places of all parts by their keys. Are they sorted, and has each part a key of its own.
-fn sort(b: &[u8], keys: Keys, marks: &[u8], order: &mut [u16; PARTS_MOST]) -> bool
-    requires { ⌜ (length (now marks) * keys .width ≤ length (now b)) × Forward keys × (length (now marks) ≤ partsMost) ⌝ }
+// Sorts the places of all parts by their keys, those of one key by their places. Are they sorted.
+fn sort(b: &[u8], keys: Keys, marks: &[u8], order: &mut [u16]) -> bool
+    requires { ⌜ (length (now marks) * keys .width ≤ length (now b)) × Forward keys × (length (now marks) ≤ partsMost) × (length (now marks) ≤ length (now order)) ⌝ }
     ensures { λ r. ⌜ (r ≡ true → Sorted keys (now (b .entry)) (now (order .exit)) (length (now (marks .entry)))) ⌝ }
 {
     let mut ranks = [0u16; PARTS_MOST];
@@ -124,12 +130,12 @@ fn sort(b: &[u8], keys: Keys, marks: &[u8], order: &mut [u16; PARTS_MOST]) -> bo
     rises(b, keys, n, order) & ordering::covers(marks, true, order, &ranks, n)
 }
 
-// The same for n parts, where so many lines are looked for that it pays.
-fn index(b: &[u8], keys: Keys, n: usize, lines: usize, order: &mut [u16; PARTS_MOST]) -> bool
-    requires { ⌜ (n * keys .width ≤ length (now b)) × Forward keys × (n ≤ partsMost) ⌝ }
+// The same for n parts, where so many keys are looked for that it pays.
+fn arrange(b: &[u8], keys: Keys, n: usize, sought: usize, order: &mut [u16]) -> bool
+    requires { ⌜ (n * keys .width ≤ length (now b)) × Forward keys × (n ≤ partsMost) × (n ≤ length (now order)) ⌝ }
     ensures { λ r. ⌜ (r ≡ true → Sorted keys (now (b .entry)) (now (order .exit)) n) ⌝ }
 {
-    if lines < FEW {
+    if sought < FEW {
         return false;
     }
     let marks = [0u8; PARTS_MOST];
@@ -138,8 +144,8 @@ fn index(b: &[u8], keys: Keys, n: usize, lines: usize, order: &mut [u16; PARTS_M
 
 // The rank at which the key t stands or would stand, if the order is sorted. Nothing is promised of it but its size: who
 // uses it tests it.
-fn seek(b: &[u8], keys: Keys, n: usize, order: &[u16; PARTS_MOST], t: &[u8]) -> usize
-    requires { ⌜ (n * keys .width ≤ length (now b)) × Forward keys × (n ≤ partsMost) ⌝ }
+fn seek(b: &[u8], keys: Keys, n: usize, order: &[u16], t: &[u8]) -> usize
+    requires { ⌜ (n * keys .width ≤ length (now b)) × Forward keys × (n ≤ length (now order)) ⌝ }
     ensures { λ r. ⌜ r ≤ n ⌝ }
 {
     let mut low: usize = 0;
@@ -170,31 +176,32 @@ fn search_for(b: &[u8], keys: Keys, n: usize, t: &[u8]) -> usize
     i
 }
 
-// The same by a sorted order: the key stands at its rank, or between two neighbours and so nowhere.
-fn find_by(b: &[u8], keys: Keys, n: usize, order: &[u16; PARTS_MOST], t: &[u8]) -> usize
+// The same by a sorted order, in which all keys ahead of its rank are less: the key stands there first, or nowhere.
+fn find_by(b: &[u8], keys: Keys, n: usize, order: &[u16], t: &[u8]) -> usize
     requires whole { ⌜ n * keys .width ≤ length (now b) ⌝ }
     requires forward { ⌜ Forward keys ⌝ }
-    requires few { ⌜ n ≤ partsMost ⌝ }
+    requires few { ⌜ n ≤ length (now order) ⌝ }
     requires ordered { ⌜ Sorted keys (now b) (now order) n ⌝ }
     ensures { λ r. ⌜ (r ≡ place (hasKey (keyOf keys) (now (t .entry))) (partsOf keys n (now (b .entry)))) × (r ≤ n) ⌝ }
 {
     let rank = seek(b, keys, n, order, t);
+    if !is_ahead(b, keys, n, order, rank, t) {
+        return search_for(b, keys, n, t);
+    }
     if is_here(b, keys, n, order, rank, t) {
         return wide(order[rank]);
     }
-    let ahead = is_ahead(b, keys, n, order, rank, t);
-    let behind = is_behind(b, keys, n, order, rank, t);
-    if ahead & behind {
+    if is_behind(b, keys, n, order, rank, t) {
         return n;
     }
     search_for(b, keys, n, t)
 }
 
 // The same by the order, where it is sorted.
-fn find(b: &[u8], keys: Keys, n: usize, order: &[u16; PARTS_MOST], sorted: bool, t: &[u8]) -> usize
+fn find(b: &[u8], keys: Keys, n: usize, order: &[u16], sorted: bool, t: &[u8]) -> usize
     requires whole { ⌜ n * keys .width ≤ length (now b) ⌝ }
     requires forward { ⌜ Forward keys ⌝ }
-    requires few { ⌜ n ≤ partsMost ⌝ }
+    requires few { ⌜ n ≤ length (now order) ⌝ }
     requires ordered { ⌜ (sorted ≡ true → Sorted keys (now b) (now order) n) ⌝ }
     ensures { λ r. ⌜ (r ≡ place (hasKey (keyOf keys) (now (t .entry))) (partsOf keys n (now (b .entry)))) × (r ≤ n) ⌝ }
 {
@@ -209,7 +216,7 @@ fn place_for(
     b: &[u8],
     keys: Keys,
     n: usize,
-    order: &[u16; PARTS_MOST],
+    order: &[u16],
     sorted: bool,
     lines: &[u8],
     line: Keys,
@@ -218,7 +225,7 @@ fn place_for(
 ) -> usize
     requires whole { ⌜ n * keys .width ≤ length (now b) ⌝ }
     requires forward { ⌜ Forward keys ⌝ }
-    requires few { ⌜ n ≤ partsMost ⌝ }
+    requires few { ⌜ n ≤ length (now order) ⌝ }
     requires ordered { ⌜ (sorted ≡ true → Sorted keys (now b) (now order) n) ⌝ }
     requires lined { ⌜ length (now marks) * line .width ≤ length (now lines) ⌝ }
     requires line_forward { ⌜ Forward line ⌝ }
@@ -236,7 +243,7 @@ fn fill(
     b: &[u8],
     keys: Keys,
     n: usize,
-    order: &[u16; PARTS_MOST],
+    order: &[u16],
     sorted: bool,
     lines: &[u8],
     line: Keys,
@@ -246,6 +253,7 @@ fn fill(
     requires whole { ⌜ n * keys .width ≤ length (now b) ⌝ }
     requires forward { ⌜ Forward keys ⌝ }
     requires few { ⌜ n ≤ partsMost ⌝ }
+    requires room { ⌜ n ≤ length (now order) ⌝ }
     requires ordered { ⌜ (sorted ≡ true → Sorted keys (now b) (now order) n) ⌝ }
     requires lined { ⌜ length (now marks) * line .width ≤ length (now lines) ⌝ }
     requires line_forward { ⌜ Forward line ⌝ }
@@ -261,7 +269,32 @@ fn fill(
 }
 
 // Where the keys of lines stand among n parts of a block, for as many lines as `found` has room for: a line that is not
-// marked 0 is not looked for.
+// marked 0 is not looked for. The places of the parts are sorted in the index, which is lent in any state and means nothing
+// afterwards.
+pub fn places_by(
+    b: &[u8],
+    keys: Keys,
+    n: usize,
+    lines: &[u8],
+    line: Keys,
+    marks: &[u8],
+    index: &mut [u16],
+    found: &mut [u16],
+)
+    requires whole { ⌜ n * keys .width ≤ length (now b) ⌝ }
+    requires forward { ⌜ Forward keys ⌝ }
+    requires lined { ⌜ length (now marks) * line .width ≤ length (now lines) ⌝ }
+    requires line_forward { ⌜ Forward line ⌝ }
+    requires marked { ⌜ length (now found) ≤ length (now marks) ⌝ }
+    requires few { ⌜ n ≤ partsMost ⌝ }
+    requires indexed { ⌜ n ≤ length (now index) ⌝ }
+    ensures { λ _. ⌜ PlacesBy (now (b .entry)) keys n (now (lines .entry)) line (now (marks .entry)) (now (found .entry)) (now (found .exit)) ⌝ }
+{
+    let sorted = arrange(b, keys, n, found.len(), index);
+    fill(b, keys, n, index, sorted, lines, line, marks, found);
+}
+
+// The same with an index of its own.
 pub fn places(
     b: &[u8],
     keys: Keys,
@@ -282,7 +315,63 @@ pub fn places(
     if found.len() == 0 {
         return;
     }
+    let mut index = [0u16; PARTS_MOST];
+    places_by(b, keys, n, lines, line, marks, &mut index, found);
+}
+
+// Of the part at this rank: the place of the first that has its key. Of the parts ahead of it `found` tells it already.
+fn first_at(b: &[u8], keys: Keys, n: usize, order: &[u16], rank: usize, found: &[u16]) -> u16
+    requires whole { ⌜ n * keys .width ≤ length (now b) ⌝ }
+    requires forward { ⌜ Forward keys ⌝ }
+    requires room { ⌜ n ≤ length (now order) ⌝ }
+    requires ordered { ⌜ Sorted keys (now b) (now order) n ⌝ }
+    requires within { ⌜ rank < n ⌝ }
+    requires led { ⌜ Led keys n (now b) (now order) rank (now found) ⌝ }
+    ensures { λ r. ⌜ r ≡ firstFor keys n (now (b .entry)) (getD (now (order .entry)) rank 0) ⌝ }
+{
+    if rank == 0 {
+        return order[rank];
+    }
+    let ahead = rank - 1;
+    let there = key_at(b, keys, n, order, ahead);
+    if texts::same(there, key_at(b, keys, n, order, rank)) {
+        let place = wide(order[ahead]);
+        return found[place];
+    }
+    order[rank]
+}
+
+// What `firsts` promises, by a sorted order: from the lowest key to the highest.
+fn lead(b: &[u8], keys: Keys, order: &[u16], found: &mut [u16])
+    requires whole { ⌜ length (now found) * keys .width ≤ length (now b) ⌝ }
+    requires forward { ⌜ Forward keys ⌝ }
+    requires room { ⌜ length (now found) ≤ length (now order) ⌝ }
+    requires ordered { ⌜ Sorted keys (now b) (now order) (length (now found)) ⌝ }
+    ensures { λ _. ⌜ Firsts (now (b .entry)) keys (now (found .entry)) (now (found .exit)) ⌝ }
+{
+    let n = found.len();
+    let mut rank: usize = 0;
+    while rank < n {
+        let first = first_at(b, keys, n, order, rank, found);
+        let place = wide(order[rank]);
+        found[place] = first;
+        rank += 1;
+    }
+}
+
+// Of each part, the place of the first that has its key; as many parts as `found` has room for.
+pub fn firsts(b: &[u8], keys: Keys, found: &mut [u16])
+    requires whole { ⌜ length (now found) * keys .width ≤ length (now b) ⌝ }
+    requires forward { ⌜ Forward keys ⌝ }
+    requires few { ⌜ length (now found) ≤ partsMost ⌝ }
+    ensures { λ _. ⌜ Firsts (now (b .entry)) keys (now (found .entry)) (now (found .exit)) ⌝ }
+{
+    let n = found.len();
     let mut order = [0u16; PARTS_MOST];
-    let sorted = index(b, keys, n, found.len(), &mut order);
-    fill(b, keys, n, &order, sorted, lines, line, marks, found);
+    if arrange(b, keys, n, n, &mut order) {
+        lead(b, keys, &order, found);
+        return;
+    }
+    let marks = [0u8; PARTS_MOST];
+    fill(b, keys, n, &order, false, b, keys, &marks[..n], found);
 }

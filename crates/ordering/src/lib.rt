@@ -102,8 +102,8 @@ fn rise(b: &[u8], keys: Keys, marks: &[u8], all: bool, order: &[u16; PARTS_MOST]
 }
 
 // Stands a at this rank.
-fn is_at(order: &[u16; PARTS_MOST], m: usize, rank: usize, a: usize) -> bool
-    requires { ⌜ m ≤ partsMost ⌝ }
+fn is_at(order: &[u16], m: usize, rank: usize, a: usize) -> bool
+    requires { ⌜ m ≤ length (now order) ⌝ }
     ensures { λ r. ⌜ r ≡ ltb rank m && eqb (getD (now (order .entry)) rank 0) a ⌝ }
 {
     if m <= rank {
@@ -113,14 +113,8 @@ fn is_at(order: &[u16; PARTS_MOST], m: usize, rank: usize, a: usize) -> bool
 }
 
 // Stands each part that counts at its rank, among the first m of the order.
-pub fn covers(
-    marks: &[u8],
-    all: bool,
-    order: &[u16; PARTS_MOST],
-    ranks: &[u16; PARTS_MOST],
-    m: usize,
-) -> bool
-    requires { ⌜ (length (now marks) ≤ partsMost) × (m ≤ partsMost) ⌝ }
+pub fn covers(marks: &[u8], all: bool, order: &[u16], ranks: &[u16; PARTS_MOST], m: usize) -> bool
+    requires { ⌜ (length (now marks) ≤ partsMost) × (m ≤ length (now order)) ⌝ }
     ensures { λ r. ⌜ Covers (now (marks .entry)) all (now (order .entry)) (now (ranks .entry)) m r ⌝ }
 {
     let mut a: usize = 0;

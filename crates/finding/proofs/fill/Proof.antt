@@ -20,12 +20,12 @@ loop-holds c = filled-start _ _
 
 place-for-requires : tie.Need-place-for-requires Inv-loop μ-loop
 place-for-requires c κs =
-    let (whole, (forward, (few, (ordered, (lined, (line-forward, marked)))))) = c .before .before .before .before .before .before .pre in
-    (whole, (forward, (few, (ordered, (lined, (line-forward, omega (arith, marked, c .before .loop .inv .size, c .loop-test .taken)))))))
+    let (whole, (forward, (_, (room, (ordered, (lined, (line-forward, marked))))))) = c .before .before .before .before .before .before .before .pre in
+    (whole, (forward, (room, (ordered, (lined, (line-forward, omega (arith, marked, c .before .loop .inv .size, c .loop-test .taken)))))))
 
 cast-found : tie.Need-cast-found Inv-loop μ-loop
 cast-found c =
-    let p = c .before .before .before .before .before .before .before .pre in
+    let p = c .before .before .before .before .before .before .before .before .pre in
     omega (arith, p .1 .1 .0, c .place-for .ensures .1)
 
 loop-less : tie.Need-loop-less Inv-loop μ-loop

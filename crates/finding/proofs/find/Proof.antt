@@ -5,7 +5,7 @@ use Rattle.finding.proofs.find.Tie as tie
 
 find-by-requires : tie.Need-find-by-requires
 find-by-requires c κs =
-    let (whole, (forward, (few, ordered))) = c .before .before .before .pre in
+    let (whole, (forward, (few, ordered))) = c .before .before .before .before .pre in
     (whole, (forward, (few, ordered (c .if1 .taken))))
 
 pub find-spec : {M : Type 1} → statement M

@@ -6,7 +6,7 @@ use Rattle.finding.proofs.key_at.Tie as tie
 
 key-requires : tie.Need-key-requires
 key-requires c κs =
-    let p = c .before .before .before .pre in
+    let p = c .before .before .before .before .pre in
     (part-fits _ _ (c .wide .result) _ (p .0) (rw (c .wide .ensures) (p .4)), p .1)
 
 returns : tie.Need-returns

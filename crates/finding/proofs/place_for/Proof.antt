@@ -11,13 +11,13 @@ returns c = (place-unasked _ _ _ _ _ _ _ (c .if1 .taken), omega arith)
 
 key-requires : tie.Need-key-requires
 key-requires c κs =
-    let x = c .before .before .before .before .before in
+    let x = c .before .before .before .before .before .before in
     let (_, (_, (_, (_, (lined, (forward, within)))))) = x .pre in
     (part-fits _ _ (x .args .i) _ lined within, forward)
 
 find-requires : tie.Need-find-requires
 find-requires c κs =
-    let (whole, (forward, (few, (ordered, _)))) = c .before .before .before .before .before .before .pre in
+    let (whole, (forward, (few, (ordered, _)))) = c .before .before .before .before .before .before .before .pre in
     (whole, (forward, (few, ordered)))
 
 returns-2 : tie.Need-returns-2

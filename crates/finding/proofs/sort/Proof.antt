@@ -10,4 +10,4 @@ returns c = λ e. order-sorted _ _ _ _ _ _ (c .before .before .before .rises .en
 pub sort-spec : {M : Type 1} → statement M
 sort-spec =
     tie.close
-    (tie.spec (λ c κs. search needs) (λ c κs. search needs) (λ c κs. search needs) returns)
+    (tie.spec (λ c κs. search needs) (λ c κs. search needs) (λ c κs. search needs) (λ c. search needs) returns)
