@@ -76,19 +76,31 @@ success f register =
     let vs : List ℕ = judged register (f .rows) (f .hgv) in
     record { number = 0; taken = tally good vs; rejected = tally bad vs; length = length (confirmed f register) }
 
+-- what is answered at the number n
+abbrev pub answerAt : ℕ → Handed → List ℕ → Imported
+answerAt n f register = unlessStopped n (success f register) (refusal n)
+
 unfoldable pub importAnswer : Handed → List ℕ → Imported
-importAnswer f register = let n : ℕ = importNumber f register in unlessStopped n (success f register) (refusal n)
+importAnswer f register = answerAt (importNumber f register) f register
 
 -- the records that follow, and free slots behind them
 unfoldable pub registerWritten : Handed → List ℕ → List ℕ
 registerWritten f register = flat (pad slotLength (slotsIn register) (following f register))
 
+-- the register after the number n: at a stop no byte of it differs
+abbrev pub registerAt : ℕ → Handed → List ℕ → List ℕ
+registerAt n f register = unlessStopped n (registerWritten f register) register
+
 unfoldable pub registerAfter : Handed → List ℕ → List ℕ
-registerAfter f register = unlessStopped (importNumber f register) (registerWritten f register) register
+registerAfter f register = registerAt (importNumber f register) f register
 
 -- the confirmation in front; bytes beyond it keep their values
 unfoldable pub hgcWritten : Handed → List ℕ → List ℕ
 hgcWritten f register = let c : List ℕ = confirmed f register in c ++ drop (length c) (f .hgc)
 
+-- and the HGC's buffer
+abbrev pub hgcAt : ℕ → Handed → List ℕ → List ℕ
+hgcAt n f register = unlessStopped n (hgcWritten f register) (f .hgc)
+
 unfoldable pub hgcAfter : Handed → List ℕ → List ℕ
-hgcAfter f register = unlessStopped (importNumber f register) (hgcWritten f register) (f .hgc)
+hgcAfter f register = hgcAt (importNumber f register) f register

@@ -1,15 +1,16 @@
--- The stops of an import that look at what was handed over, before any line is judged: 21 to 32, in their order.
--- Assumes nothing.
+-- The stops of an import that look at what was handed over, before any line is judged: 21 to 32, in their order, and 36 of the
+-- indexed import among them. Assumes nothing.
 use Prim.Native.Nat.{ℕ}
 use mathlib.Core.Bool.{Bool, not, _&&_, _||_}
 use mathlib.Core.List.{List, [], _∷_, _++_}
-use lib.Dec.{eqb}
+use lib.Dec.{eqb, ltb}
 use Rattle.theory.specs.First.{Rule, _if_, first}
 use Rattle.issuers.specs.Rows.{rowsHold, known}
 use Rattle.hgv.specs.Layout.{lengthHolds}
 use Rattle.frames.specs.Frames.{footerHolds, framesHold}
 use Rattle.header.specs.Header.{sender, headerHolds}
 use Rattle.claims.specs.Claims.{versionHolds, incrementalOnly, receiverHolds, countHolds}
+use Rattle.slots.specs.Slots.{slotsIn}
 use Rattle.register.specs.Register.{inOrder}
 use Rattle.sizes.specs.Sizes.{incremental}
 use Rattle.sizes.specs.Modes.{isFull}
@@ -54,3 +55,14 @@ formStops mode timed register b h = callStops mode timed register b ++ fileStops
 -- the first that holds, 0 where none does
 unfoldable pub formStop : ℕ → Bool → List ℕ → List ℕ → List ℕ → ℕ
 formStop mode timed register b h = first (formStops mode timed register b h)
+
+-- 36, in the indexed import only: its index of k numbers is shorter than the slots, used and free
+unfoldable pub indexShort : ℕ → List ℕ → Bool
+indexShort k register = ltb k (slotsIn register)
+
+-- after 24 and before 25
+unfoldable pub indexedFormStops : ℕ → Bool → List ℕ → List ℕ → ℕ → List ℕ → List Rule
+indexedFormStops mode timed register b k h = callStops mode timed register b ++ (36 if indexShort k register) ∷ fileStops mode b h
+
+unfoldable pub indexedFormStop : ℕ → Bool → List ℕ → List ℕ → ℕ → List ℕ → ℕ
+indexedFormStop mode timed register b k h = first (indexedFormStops mode timed register b k h)

@@ -2,7 +2,7 @@
 ghost use mathlib.Core.Path.{_≡_};
 ghost use Rattle.theory.specs.First.{first};
 ghost use Rattle.stops.specs.Stops.{addressed, callStops, fileStops};
-ghost use Rattle.stops.specs.Promises.{IsMode, IsFullWith220001, FormStop};
+ghost use Rattle.stops.specs.Promises.{IsMode, IsFullWith220001, FormStop, IndexedFormStop};
 
 pub fn is_mode(mode: u64) -> bool
     ensures { λ r. ⌜ IsMode mode r ⌝ }
@@ -56,4 +56,23 @@ pub fn form_stop(mode: u64, timed: bool, register: &[u8], rows: &[u8], hgv: &[u8
         return stop;
     }
     file_stop(mode, rows, hgv)
+}
+
+// The same of the indexed import, whose index has so many numbers: 36 stands behind 24 and in front of 25.
+pub fn indexed_form_stop(
+    mode: u64,
+    timed: bool,
+    register: &[u8],
+    rows: &[u8],
+    index: usize,
+    hgv: &[u8],
+) -> u64
+    ensures { λ r. ⌜ IndexedFormStop mode timed (now (register .entry)) (now (rows .entry)) index (now (hgv .entry)) r ⌝ }
+{
+    let stop = call_stop(mode, timed, register, rows);
+    if stop != 0 {
+        return stop;
+    }
+    let s25 = file_stop(mode, rows, hgv);
+    rules::first(index < register.len() / sizes::SLOT, 36, s25)
 }

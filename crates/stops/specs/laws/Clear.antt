@@ -1,9 +1,9 @@
 -- What was handed over where no stop from 21 to 32 is given. Assumes nothing.
-use mathlib.Core.Path.{_≡_, refl}
+use mathlib.Core.Path.{_≡_, refl, sym, _∙_}
 use mathlib.Core.Bool.{Bool, true, false}
 use mathlib.Core.List.{List}
-use Prim.Native.Nat.{ℕ}
-use borrow.Author.Tests.{not-false}
+use Prim.Native.Nat.{ℕ, _≤_}
+use borrow.Author.Tests.{not-false, ltb-false, le-ltb}
 use Rattle.theory.specs.First.{None, first, choose}
 use Rattle.theory.specs.laws.First.{first-clear, numbered, fitsAt, none-at}
 use Rattle.issuers.specs.Rows.{rowsHold}
@@ -12,7 +12,8 @@ use Rattle.frames.specs.Frames.{footerHolds, framesHold}
 use Rattle.header.specs.Header.{headerHolds}
 use Rattle.claims.specs.Claims.{versionHolds, countHolds}
 use Rattle.register.specs.Register.{inOrder}
-use Rattle.stops.specs.Stops.{modeHolds, fullWith220001, addressed, callStops, fileStops, formStops, formStop}
+use Rattle.slots.specs.Slots.{slotsIn}
+use Rattle.stops.specs.Stops.{modeHolds, fullWith220001, addressed, callStops, fileStops, formStops, formStop, indexShort, indexedFormStops, indexedFormStop}
 
 pub record Clear (mode : ℕ) (timed : Bool) (register b h : List ℕ) : Type 0 where
   pub moded : modeHolds mode ≡ true
@@ -53,3 +54,17 @@ module _ (mode : ℕ) (timed : Bool) (register b h : List ℕ) where
   unfolding formStop formStops callStops fileStops first choose
   clear-none c =
       rw (c .moded, c .received, c .ordered, c .rowed, c .sized, c .headed, c .versioned, c .fitting, c .sent, c .counted, c .footed, c .framed)
+
+  -- ---- the same with an index of k numbers
+  module _ (k : ℕ) where
+    -- where it is long enough the stops of form are those of the import
+    pub indexed-same : slotsIn register ≤ k → indexedFormStop mode timed register b k h ≡ formStop mode timed register b h
+    unfolding indexedFormStop indexedFormStops formStop formStops callStops indexShort first choose
+    indexed-same l = rw (le-ltb k (slotsIn register) l)
+
+    pub indexed-long : indexedFormStop mode timed register b k h ≡ 0 → slotsIn register ≤ k
+    unfolding indexedFormStop indexedFormStops callStops fileStops indexShort numbered fitsAt
+    indexed-long e = ltb-false k (slotsIn register) (none-at 36 (first-clear (indexedFormStops mode timed register b k h) refl e))
+
+    pub indexed-clear : indexedFormStop mode timed register b k h ≡ 0 → Clear mode timed register b h
+    indexed-clear e = clear (sym (indexed-same (indexed-long e)) ∙ e)
