@@ -11,18 +11,15 @@ use Rattle.theory.specs.Walk.{some}
 use Rattle.theory.specs.Parts.{partAt}
 use Rattle.theory.specs.Pick.{good}
 use Rattle.theory.specs.laws.Place.{place-some}
-use Rattle.sizes.specs.Sizes.{full, slotsMost}
+use Rattle.sizes.specs.Sizes.{full}
 use Rattle.sizes.specs.Modes.{isFull}
 use Rattle.columns.specs.Columns.{panOf}
 use Rattle.records.specs.Slot.{slotOf, storable}
 use Rattle.slots.specs.Slots.{slotsIn, records, usedIn}
 use Rattle.register.specs.Register.{inOrder}
 use Rattle.slots.specs.Search.{holdsPan, placeOf}
-use Rattle.slots.specs.laws.Slots.{used-most}
-use Rattle.register.specs.laws.Register.{ordered}
 use Rattle.taken.specs.Taken.{takenIn}
 use Rattle.holdings.specs.Holdings.{storedAll, others, holdings}
-use Rattle.holdings.specs.laws.Places.{places-tell}
 use Rattle.upkeep.specs.Holds.{Holds, Left}
 use Rattle.upkeep.specs.laws.Stays.{as-it-is}
 use Rattle.storing.specs.CanStore.{Stands, CanStore}
@@ -42,40 +39,51 @@ none-gone b h mode who r n u = rw (ne-eqb mode full n) (record { holds = as-it-i
 
 -- ---- what is told of the lines, among the records of the register that was prepared
 
-module _ (R : List (List ℕ)) (n : ℕ) (e : n ≡ length R) (pan : List ℕ) (f : ℕ) where
-  stands-found : f ≡ placeOf pan R → Stands n R pan f
+pub told-all : (mode used : ℕ) → (mode ≡ full → ⊥) → used ≡ cond (isFull mode) 0 used
+unfolding isFull
+told-all mode used n = rw (ne-eqb mode full n)
+
+pub told-none : (mode used : ℕ) → mode ≡ full → 0 ≡ cond (isFull mode) 0 used
+unfolding isFull
+told-none mode used m = rw (eq-eqb mode full m)
+
+module _ (R : List (List ℕ)) (pan : List ℕ) (f : ℕ) where
+  stands-found : (n : ℕ) → n ≡ length R → f ≡ placeOf pan R → Stands n R pan f
   unfolding placeOf
-  stands-found p = record { held = λ k. sym p; new = λ k. place-some (holdsPan pan) R ∙ rw (← p) (le-ltb f (length R) (omega (arith, e))) }
+  stands-found n e p = record { held = λ k. sym p; new = λ k. place-some (holdsPan pan) R ∙ rw (← p) (le-ltb f (length R) (omega (arith, e))) }
 
-  stands-nowhere : some (holdsPan pan) R ≡ false → n ≤ f → Stands n R pan f
-  stands-nowhere p l = record { held = λ k. absurd (omega arith); new = λ k. p }
+  stands-nowhere : some (holdsPan pan) R ≡ false → Stands 0 R pan f
+  stands-nowhere p = record { held = λ k. absurd (omega arith); new = λ k. p }
 
+-- `used` slots are left, and a place below `told` tells of them
 module _ (mode : ℕ) (who s b : List ℕ) (width : ℕ) (lines vs found : List ℕ) (o : inOrder b ≡ true)
     (k : Each (λ l. storable s l ≡ true) (takenIn width vs lines)) (f : Fit mode who (slotOf s) (slotsIn b) (records b) (takenIn width vs lines))
-    (t : Sought mode (records b) width lines vs found) (b₁ : List ℕ) (used : ℕ) (p : Left (slotsIn b) (prepared mode who (records b)) b₁ used) where
+    (t : Sought mode (records b) width lines vs found) (b₁ : List ℕ) (used : ℕ) (p : Left (slotsIn b) (prepared mode who (records b)) b₁ used)
+    (told : ℕ) (e : told ≡ cond (isFull mode) 0 used) where
   counted : used ≡ usedIn b₁
   counted = p .counted ∙ ap length (sym (p .holds .held))
 
   leads-on : storedAll (records b₁) (map (slotOf s) (takenIn width vs lines)) ≡ holdings mode who (slotOf s) (records b) (takenIn width vs lines)
   leads-on = rw (p .holds .held) (prepared-stored mode who (slotOf s) (slotsIn b) (records b) (takenIn width vs lines) f)
 
-  used-few : used ≤ slotsMost
-  used-few = omega (arith, counted, used-most b₁, ordered b₁ (p .holds .order) .most)
-
-  stands : (i : ℕ) → i < length vs → good (getD vs i 0) ≡ true → Stands used (records b₁) (panOf (partAt width i lines)) (getD found i 0)
-  unfolding prepared
-  stands i l g = go (isFull mode) refl (p .holds .held)
+  known : told ≤ used
+  known = rw e (go (isFull mode))
     where
-      go : (t : Bool) → isFull mode ≡ t → records b₁ ≡ cond t (others who (records b)) (records b) → Stands used (records b₁) (panOf (partAt width i lines)) (getD found i 0)
-      go true m q =
-          stands-nowhere (records b₁) used counted _ _
-          (rw q (each-taken width vs lines _ i l g (each-new mode who (slotOf s) (slotsIn b) (records b) (takenIn width vs lines) f)))
-          (omega (arith, used-few, t .none m i l))
-      go false m q = stands-found (records b₁) used counted _ _ (rw q (places-tell (records b) width lines vs found (t .places m) .told i l g))
+      go : (t : Bool) → cond t 0 used ≤ used
+      go true = omega arith
+      go false = omega arith
+
+  stands : (i : ℕ) → i < length vs → good (getD vs i 0) ≡ true → Stands told (records b₁) (panOf (partAt width i lines)) (getD found i 0)
+  unfolding prepared
+  stands i l g = rw e (go (isFull mode) refl (p .holds .held))
+    where
+      go : (t : Bool) → isFull mode ≡ t → records b₁ ≡ cond t (others who (records b)) (records b) → Stands (cond t 0 used) (records b₁) (panOf (partAt width i lines)) (getD found i 0)
+      go true m q = stands-nowhere (records b₁) _ _ (rw q (each-taken width vs lines _ i l g (each-new mode who (slotOf s) (slotsIn b) (records b) (takenIn width vs lines) f)))
+      go false m q = stands-found (records b₁) _ _ used counted (rw q (t .places m .told i l g))
 
   -- x is the stamp as it was written
   module _ (x : List ℕ) (written : x ≡ s) where
-    pub can-store : CanStore x b₁ used width lines vs found
+    pub can-store : CanStore x b₁ used told width lines vs found
     can-store =
         rw written
         record {
@@ -84,6 +92,7 @@ module _ (mode : ℕ) (who s b : List ℕ) (width : ℕ) (lines vs found : List 
           lined = k;
           apart = f .apart;
           room = rw (leads-on, p .holds .many) (f .room);
+          known = known;
           placed = stands;
         }
 

@@ -1,5 +1,4 @@
 pub mod Prepared
-pub mod Sought
 pub mod Others
 pub mod Touched
 pub mod Follows

@@ -1,11 +1,12 @@
 // The taken lines of a file applied to a register in place: in mode 2 the sender's records first go, then each line is
 // stored under its PAN.
 ghost use mathlib.Core.Path.{_≡_};
-ghost use mathlib.Core.Bool.{true};
+ghost use mathlib.Core.Bool.{true, cond};
 ghost use Prim.Native.Nat.{_*_, _≤_};
 ghost use lib.ListN.{length};
 ghost use Rattle.theory.specs.Each.{Each};
 ghost use Rattle.sizes.specs.Sizes.{timeLength};
+ghost use Rattle.sizes.specs.Modes.{isFull};
 ghost use Rattle.sequences.specs.Sequence.{listLength};
 ghost use Rattle.stamps.specs.Stamp.{stamp};
 ghost use Rattle.records.specs.Slot.{slotOf, storable};
@@ -28,8 +29,15 @@ fn prepare(mode: u64, register: &mut [u8], who: &[u8]) -> usize
     slots::used_slots(register)
 }
 
+// Below which place `found` tells where a PAN stands: in mode 2 below none, since the sender's records went.
+fn told_below(mode: u64, used: usize) -> usize
+    ensures { λ r. ⌜ r ≡ cond (isFull mode) 0 used ⌝ }
+{
+    if mode != sizes::FULL { used } else { 0 }
+}
+
 // The lines whose verdict is 0, of this sender's list that was received at `reception`, applied to a register in order under
-// one stamp; `found` tells where their PANs stand in it.
+// one stamp; `found` tells in mode 1 where their PANs stand in it.
 pub fn apply(
     mode: u64,
     register: &mut [u8],
@@ -53,5 +61,6 @@ pub fn apply(
     let mut stamp = [0u8; sizes::STAMP];
     stamps::write_stamp(&mut stamp, list, reception);
     let used = prepare(mode, register, who);
-    storing::store_all(register, used, lines, width, verdicts, &stamp, found);
+    let told = told_below(mode, used);
+    storing::store_all(register, used, told, lines, width, verdicts, &stamp, found);
 }

@@ -1,17 +1,16 @@
 // What the register then holds: where the taken lines' PANs stand among its records, and how many slots are used when the
 // lines have been applied (stop 33).
 ghost use mathlib.Core.Path.{_≡_};
-ghost use mathlib.Core.Bool.{_&&_, not};
+ghost use mathlib.Core.Bool.{_&&_};
 ghost use Prim.Native.Nat.{_*_, _≤_, _<_};
-ghost use lib.Dec.{ltb};
 ghost use lib.ListN.{length};
 ghost use Rattle.theory.specs.Count.{bump};
-ghost use Rattle.theory.specs.Pick.{good};
+ghost use Rattle.theory.specs.Keep.{sift};
+ghost use Rattle.theory.specs.Pick.{good, pick};
 ghost use Rattle.sizes.specs.Sizes.{slotsMost};
-ghost use Rattle.slots.specs.Slots.{slotsIn, slotsOf, usedIn};
-ghost use Rattle.holdings.specs.Places.{placesIn};
-ghost use Rattle.holdings.specs.laws.Places.{CountsNew};
-ghost use Rattle.holdings.specs.Promises.{PlaceAt, UsedAfter};
+ghost use Rattle.slots.specs.Slots.{usedIn};
+ghost use Rattle.holdings.specs.Room.{isBehind};
+ghost use Rattle.holdings.specs.Promises.{PlaceAt, FindPlaces, UsedAfter};
 
 // Where the PAN stands in a slot.
 const PANS: keys::Keys = keys::Keys {
@@ -34,13 +33,24 @@ pub fn place_at(found: &[u16], i: usize) -> usize
     wide(found[i])
 }
 
-// Where the PANs of the taken lines stand among the slots.
-fn find_places(held: &[u8], lines: &[u8], width: usize, verdicts: &[u8], found: &mut [u16])
+// Where the PANs of the taken lines stand among the used slots, in mode 1; mode 2 looks for none.
+pub fn find_places(
+    mode: u64,
+    register: &[u8],
+    lines: &[u8],
+    width: usize,
+    verdicts: &[u8],
+    found: &mut [u16],
+)
     requires lined { ⌜ length (now verdicts) * width ≤ length (now lines) ⌝ }
     requires judged { ⌜ length (now found) ≡ length (now verdicts) ⌝ }
-    requires few { ⌜ slotsIn (now held) ≤ slotsMost ⌝ }
-    ensures { λ _. ⌜ now (found .exit) ≡ placesIn (slotsOf (now (held .entry))) width (now (lines .entry)) (now (verdicts .entry)) ⌝ }
+    requires few { ⌜ usedIn (now register) ≤ slotsMost ⌝ }
+    ensures { λ _. ⌜ FindPlaces mode (now (register .entry)) (now (lines .entry)) width (now (verdicts .entry)) (now (found .entry)) (now (found .exit)) ⌝ }
 {
+    if mode == sizes::FULL {
+        return;
+    }
+    let held = slots::used_part(register);
     let n = held.len() / sizes::SLOT;
     let line = keys::Keys {
         width,
@@ -50,9 +60,9 @@ fn find_places(held: &[u8], lines: &[u8], width: usize, verdicts: &[u8], found: 
     finding::places(held, PANS, n, lines, line, verdicts, found);
 }
 
-// Counts a line that was taken, and whose PAN none of the slots has.
+// Counts a line that was taken, and whose place is none of the slots.
 fn count_line(slots: usize, verdict: u8, place: usize) -> usize
-    ensures { λ r. ⌜ (r ≡ bump (good verdict && not (ltb place slots)) 0) × (r ≤ 1) ⌝ }
+    ensures { λ r. ⌜ (r ≡ bump (good verdict && isBehind slots place) 0) × (r ≤ 1) ⌝ }
 {
     if verdict != 0 {
         return 0;
@@ -63,10 +73,10 @@ fn count_line(slots: usize, verdict: u8, place: usize) -> usize
     1
 }
 
-// How many of the taken lines are new to so many slots, by the places found.
+// How many of the taken lines are new to so many slots, by the places told.
 fn count_new(slots: usize, verdicts: &[u8], found: &[u16]) -> usize
     requires { ⌜ length (now found) ≡ length (now verdicts) ⌝ }
-    ensures { λ r. ⌜ CountsNew slots (now (verdicts .entry)) (now (found .entry)) r × (r ≤ length (now (verdicts .entry))) ⌝ }
+    ensures { λ r. ⌜ (r ≡ length (sift (isBehind slots) (pick good (now (verdicts .entry)) (now (found .entry))))) × (r ≤ length (now (verdicts .entry))) ⌝ }
 {
     let mut k: usize = 0;
     let mut i: usize = 0;
@@ -77,27 +87,16 @@ fn count_new(slots: usize, verdicts: &[u8], found: &[u16]) -> usize
     k
 }
 
-// How many slots are used when the taken lines have been applied; in mode 1 `found` then tells where their PANs stand.
-pub fn used_after(
-    mode: u64,
-    register: &[u8],
-    who: &[u8],
-    lines: &[u8],
-    width: usize,
-    verdicts: &[u8],
-    found: &mut [u16],
-) -> usize
-    requires lined { ⌜ length (now verdicts) * width ≤ length (now lines) ⌝ }
-    requires judged { ⌜ length (now found) ≡ length (now verdicts) ⌝ }
-    requires few { ⌜ usedIn (now register) ≤ slotsMost ⌝ }
-    ensures { λ r. ⌜ UsedAfter mode (now (register .entry)) (now (who .entry)) (now (lines .entry)) width (now (verdicts .entry)) (now (found .entry)) r (now (found .exit)) ⌝ }
+// How many slots are used when the taken lines have been applied; `found` tells in mode 1 where their PANs stand.
+pub fn used_after(mode: u64, register: &[u8], who: &[u8], verdicts: &[u8], found: &[u16]) -> usize
+    requires { ⌜ length (now found) ≡ length (now verdicts) ⌝ }
+    ensures { λ r. ⌜ UsedAfter mode (now (register .entry)) (now (who .entry)) (now (verdicts .entry)) (now (found .entry)) r ⌝ }
 {
     let held = slots::used_part(register);
     let used = held.len() / sizes::SLOT;
-    if mode == sizes::FULL {
-        let others = used - slots::count_of(held, who);
-        return others + taken::count_taken(verdicts) as usize;
+    if mode != sizes::FULL {
+        return used + count_new(used, verdicts, found);
     }
-    find_places(held, lines, width, verdicts, found);
-    used + count_new(used, verdicts, found)
+    let others = used - slots::count_of(held, who);
+    others + taken::count_taken(verdicts) as usize
 }

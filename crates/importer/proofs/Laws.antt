@@ -30,18 +30,20 @@ use Rattle.upkeep.specs.Holds.{Holds}
 use Rattle.verdicts.specs.Verdict.{taken}
 use Rattle.hgc.specs.Confirmation.{confirmation, confirmationLength}
 use Rattle.holdings.specs.Holdings.{holdings}
-use Rattle.holdings.specs.Room.{usedAfter}
+use Rattle.holdings.specs.Room.{usedAfter, usedBy}
+use Rattle.holdings.specs.laws.Room.{used-by}
 use Rattle.holdings.specs.Places.{placesAfter}
+use Rattle.holdings.specs.laws.Places.{places-tell, length-places}
 use Rattle.thinness.specs.Thin.{thin}
 use Rattle.applying.specs.Fit.{Fit, Sought}
-use Rattle.applying.specs.laws.Sought.{NoPlaces, sought}
 use Rattle.hgv.specs.laws.Layout.{is-width, lines-most}
 use Rattle.times.specs.Seconds.{isReal}
 use Rattle.offsets.specs.Offset.{offsetHolds, localTime, receptionHolds}
 use Rattle.offsets.specs.Ahead.{aheadMost, aheadOf, offsetOf}
 use Rattle.offsets.specs.laws.Shift.{offset-ahead, offset-most, received}
 use Rattle.stops.specs.Stops.{formStop}
-use Rattle.stops.specs.laws.Clear.{Clear, clear}
+use Rattle.stops.specs.Clear.{Clear}
+use Rattle.stops.specs.laws.Clear.{clear}
 use Rattle.importer.specs.Handed.{Handed}
 use Rattle.importer.specs.Import.{judged, following, shown, confirmed, judgedStops, timed, success, registerWritten, hgcWritten}
 use Rattle.importer.specs.laws.Numbers.{Formed, formed-received, Passed, judged-passed}
@@ -50,13 +52,6 @@ use Rattle.importer.specs.laws.Accepted.{Accepted, verdict-each, lines-t
 -- vs are the verdicts, and r of them reject their line
 module _ (f : Handed) (register vs : List ℕ) (r : ℕ)
     (c : Formed f register) (v : vs ≡ judged register (f .rows) (f .hgv)) (e : r ≡ tally bad vs) where
-  -- ls is the body and w the width as the code has them
-  pub lines-fit : (ls : List ℕ) → ls ≡ body (f .hgv) → (w : ℕ) → w ≡ widthOf (f .hgv) → length vs * w ≤ length ls
-  lines-fit ls el w ew = rw (el, ew) (lines-there f register c vs v)
-
-  pub used-few : usedIn register ≤ slotsMost
-  used-few = omega (arith, used-most register, ordered register (c .ordered) .most)
-
   pub rejected-most : r ≤ linesMost
   rejected-most = omega (arith, e, tallies vs, verdicts-most f register c vs v)
 
@@ -69,11 +64,12 @@ module _ (f : Handed) (register vs : List ℕ) (r : ℕ)
       → b ≡ thin (f .mode) (sender (f .hgv)) (records register) (tally good (judged register (f .rows) (f .hgv)))
   thin-is from ef t et b eb = eb ∙ rw (ef, et, v)
 
-  -- 33: from, ls and w are sender, body and width, k the slots that would be used
-  pub slots-are : (from ls : List ℕ) → from ≡ sender (f .hgv) → ls ≡ body (f .hgv) → (w : ℕ) → w ≡ widthOf (f .hgv) → (k : ℕ) → k ≡ usedAfter (f .mode) from (records register) (takenIn w vs ls)
-      → ltb (slotsIn register) k ≡ ltb (slotsIn register) (length (following f register))
-  slots-are from ls ef el w ew k ek =
-      let u : k ≡ usedAfter (f .mode) (sender (f .hgv)) (records register) (takenIn (widthOf (f .hgv)) vs (body (f .hgv))) = ek ∙ rw (ef, el, ew) in
+  -- 33: from is the sender, `found` tells of the lines, and k slots would be used
+  pub slots-are : (from : List ℕ) → from ≡ sender (f .hgv) → (found : List ℕ) → Sought (f .mode) (records register) (widthOf (f .hgv)) (body (f .hgv)) vs found
+      → (k : ℕ) → k ≡ usedBy (f .mode) from (records register) vs found → ltb (slotsIn register) k ≡ ltb (slotsIn register) (length (following f register))
+  slots-are from ef found s k ek =
+      let u : k ≡ usedAfter (f .mode) (sender (f .hgv)) (records register) (takenIn (widthOf (f .hgv)) vs (body (f .hgv))) =
+      ek ∙ rw ef (used-by (f .mode) (sender (f .hgv)) (records register) (widthOf (f .hgv)) (body (f .hgv)) vs found (s .many) (s .places)) in
       rw (u, lines-are f register c vs v, following-used f register c)
 
   -- 34: w is the width, and m the confirmation's length
@@ -174,16 +170,28 @@ pub taken-most : (vs : List ℕ) (t : ℕ) → t ≡ tally good vs → t ≤ len
 taken-most vs t e = omega (arith, tallies vs)
 
 module _ (f : Handed) (register vs : List ℕ) (c : Formed f register) (v : vs ≡ judged register (f .rows) (f .hgv)) where
-  pub as-many : (n : ℕ) → n ≡ linesIn (f .hgv) → n ≡ length vs
-  as-many n e = e ∙ sym (verdict-each f register c vs v)
+  -- ls is the body and w the width as the code has them, found₀ the block before
+  module _ (ls : List ℕ) (el : ls ≡ body (f .hgv)) (w : ℕ) (ew : w ≡ widthOf (f .hgv)) (found₀ : List ℕ) (m : length found₀ ≡ linesIn (f .hgv)) where
+    as-many : length found₀ ≡ length vs
+    as-many = m ∙ sym (verdict-each f register c vs v)
 
-  -- found₀ is the block before, and `found` what was found
-  module _ (found₀ found : List ℕ) (z : NoPlaces found₀) (m : length found₀ ≡ linesIn (f .hgv)) (g : found ≡ placesAfter (f .mode) (records register) (widthOf (f .hgv)) (body (f .hgv)) vs found₀) where
-    pub accepts : (t : ℕ) → t ≡ tally good vs → (s : ℕ) → s ≡ first (judgedStops f register) → s ≡ 0
-        → Accepted f register vs t (length vs - t) found
-    accepts t e s k y =
-        let passed : Passed f register = judged-passed f register (sym k ∙ y) in
-        record { clear = c; verdicts = v; taken-are = e; rejected-are = rest-rejected vs t e; slots = passed .slots; buffer = passed .buffer; sought = sought (f .mode) (records register) (widthOf (f .hgv)) (body (f .hgv)) vs found₀ found z (as-many (length found₀) m) g }
+    pub find-fits : (length vs * w ≤ length ls) × ((length found₀ ≡ length vs) × (usedIn register ≤ slotsMost))
+    find-fits = (rw (el, ew) (lines-there f register c vs v), (as-many, omega (arith, used-most register, ordered register (c .ordered) .most)))
+
+    -- `found` is what was found
+    pub sought : (found : List ℕ) → found ≡ placesAfter (f .mode) (records register) w ls vs found₀ → Sought (f .mode) (records register) (widthOf (f .hgv)) (body (f .hgv)) vs found
+    sought found g =
+        rw (← el, ← ew)
+        record {
+          many = length-places (f .mode) (records register) w ls vs found₀ found g as-many;
+          places = places-tell (f .mode) (records register) w ls vs found₀ found g;
+        }
+
+  pub accepts : (found : List ℕ) → Sought (f .mode) (records register) (widthOf (f .hgv)) (body (f .hgv)) vs found
+      → (t : ℕ) → t ≡ tally good vs → (s : ℕ) → s ≡ first (judgedStops f register) → s ≡ 0 → Accepted f register vs t (length vs - t) found
+  accepts found g t e s k y =
+      let passed : Passed f register = judged-passed f register (sym k ∙ y) in
+      record { clear = c; verdicts = v; taken-are = e; rejected-are = rest-rejected vs t e; slots = passed .slots; buffer = passed .buffer; sought = g }
 
 -- ---- from what is handed over to the lines
 

@@ -8,17 +8,16 @@ ghost use Rattle.theory.specs.Pick.{good, bad};
 ghost use Rattle.theory.specs.Tally.{tally};
 ghost use Rattle.offsets.specs.Offset.{local, receptionHolds};
 ghost use Rattle.offsets.specs.Ahead.{offsetOf};
-ghost use Rattle.stops.specs.laws.Clear.{Clear};
+ghost use Rattle.stops.specs.Clear.{Clear};
 ghost use Rattle.hgv.specs.Layout.{widthOf, linesIn, lengthHolds, body};
 ghost use Rattle.hgc.specs.Confirmation.{confirmationLength};
 ghost use Rattle.hgc.specs.Promises.{Write};
 ghost use Rattle.slots.specs.Slots.{records};
-ghost use Rattle.holdings.specs.Places.{placesAfter};
+ghost use Rattle.applying.specs.Fit.{Sought};
 ghost use Rattle.importer.specs.Handed.{handed};
-ghost use Rattle.importer.specs.Import.{judged, judgedStops, refusal, success, registerWritten, hgcWritten};
-ghost use Rattle.applying.specs.laws.Sought.{NoPlaces};
+ghost use Rattle.importer.specs.Import.{judged, judgedStops, success, registerWritten, hgcWritten};
 ghost use Rattle.importer.specs.laws.Accepted.{Accepted};
-ghost use Rattle.importer.specs.Promises.{Import};
+ghost use Rattle.importer.specs.Promises.{Import, ImportJudged, Refused};
 
 // 0 and the three numbers, or the number of a stop and zero counts.
 pub struct Imported {
@@ -34,8 +33,9 @@ struct Counts {
     rejected: u64,
 }
 
-fn refused(number: u64) -> Imported
-    ensures { λ r. ⌜ r ≡ refusal number ⌝ }
+// A stop: its number, and zero counts.
+pub fn refused(number: u64) -> Imported
+    ensures { λ r. ⌜ Refused number r ⌝ }
 {
     Imported {
         number,
@@ -45,7 +45,7 @@ fn refused(number: u64) -> Imported
     }
 }
 
-// Stops 35, 33 and 34; `found` then tells where the taken lines' PANs stand.
+// Stops 35, 33 and 34; `found` tells in mode 1 where the taken lines' PANs stand.
 fn judged_stop(
     mode: u64,
     reception: &[u8],
@@ -56,25 +56,16 @@ fn judged_stop(
     hgc: &[u8],
     verdicts: &[u8],
     counts: Counts,
-    found: &mut [u16],
+    found: &[u16],
 ) -> u64
     requires clear { ⌜ Clear mode (receptionHolds (offsetOf ahead) (now reception)) (now register) (now rows) (now hgv) ⌝ }
     requires verdict { ⌜ now verdicts ≡ judged (now register) (now rows) (now hgv) ⌝ }
     requires good { ⌜ counts .taken ≡ tally good (now verdicts) ⌝ }
     requires bad { ⌜ counts .rejected ≡ tally bad (now verdicts) ⌝ }
-    requires many { ⌜ length (now found) ≡ length (now verdicts) ⌝ }
-    ensures stopped { λ r. ⌜ r ≡ first (judgedStops (handed mode (now (reception .entry)) (offsetOf ahead) (now (rows .entry)) (now (hgv .entry)) (now (hgc .entry))) (now (register .entry))) ⌝ }
-    ensures placed { λ _. ⌜ now (found .exit) ≡ placesAfter mode (records (now (register .entry))) (widthOf (now (hgv .entry))) (body (now (hgv .entry))) (now (verdicts .entry)) (now (found .entry)) ⌝ }
+    requires sought { ⌜ Sought mode (records (now register)) (widthOf (now hgv)) (body (now hgv)) (now verdicts) (now found) ⌝ }
+    ensures { λ r. ⌜ r ≡ first (judgedStops (handed mode (now (reception .entry)) (offsetOf ahead) (now (rows .entry)) (now (hgv .entry)) (now (hgc .entry))) (now (register .entry))) ⌝ }
 {
-    let used = holdings::used_after(
-        mode,
-        register,
-        header::sender(hgv),
-        hgv::body(hgv),
-        hgv::width(hgv),
-        verdicts,
-        found,
-    );
+    let used = holdings::used_after(mode, register, header::sender(hgv), verdicts, found);
     let length = hgc::length_for(hgv::width(hgv), counts.rejected as usize);
     let s34 = rules::first(hgc.len() < length, 34, 0);
     let s33 = rules::first(register.len() / sizes::SLOT < used, 33, s34);
@@ -143,8 +134,9 @@ fn carry_out(
     }
 }
 
-// The import of a file whose lines are judged.
-fn import_judged(
+// The import of a file whose lines are judged; `found` has a number for each, which tells in mode 1 where the PAN of a taken
+// line stands.
+pub fn import_judged(
     mode: u64,
     reception: &[u8],
     ahead: u64,
@@ -153,13 +145,12 @@ fn import_judged(
     hgv: &[u8],
     hgc: &mut [u8],
     verdicts: &[u8],
-    found: &mut [u16],
+    found: &[u16],
 ) -> Imported
     requires clear { ⌜ Clear mode (receptionHolds (offsetOf ahead) (now reception)) (now register) (now rows) (now hgv) ⌝ }
     requires verdict { ⌜ now verdicts ≡ judged (now register) (now rows) (now hgv) ⌝ }
-    requires many { ⌜ length (now found) ≡ linesIn (now hgv) ⌝ }
-    requires none { ⌜ NoPlaces (now found) ⌝ }
-    ensures { λ r. ⌜ Import (handed mode (now (reception .entry)) (offsetOf ahead) (now (rows .entry)) (now (hgv .entry)) (now (hgc .entry))) (now (register .entry)) r (now (register .exit)) (now (hgc .exit)) ⌝ }
+    requires sought { ⌜ Sought mode (records (now register)) (widthOf (now hgv)) (body (now hgv)) (now verdicts) (now found) ⌝ }
+    ensures { λ r. ⌜ ImportJudged (handed mode (now (reception .entry)) (offsetOf ahead) (now (rows .entry)) (now (hgv .entry)) (now (hgc .entry))) (now (register .entry)) r (now (register .exit)) (now (hgc .exit)) ⌝ }
 {
     let taken = taken::count_taken(verdicts);
     let rejected = verdicts.len() as u64 - taken;
@@ -193,7 +184,7 @@ fn import_judged(
     )
 }
 
-// The import of a file whose form is right; `verdicts` has a byte for each line, and `found` a place that is none.
+// The import of a file whose form is right; `verdicts` has a byte for each line, and `found` a number.
 fn import_lines(
     mode: u64,
     reception: &[u8],
@@ -208,10 +199,17 @@ fn import_lines(
     requires clear { ⌜ Clear mode (receptionHolds (offsetOf ahead) (now reception)) (now register) (now rows) (now hgv) ⌝ }
     requires each { ⌜ length (now verdicts) ≡ linesIn (now hgv) ⌝ }
     requires many { ⌜ length (now found) ≡ linesIn (now hgv) ⌝ }
-    requires none { ⌜ NoPlaces (now found) ⌝ }
     ensures { λ r. ⌜ Import (handed mode (now (reception .entry)) (offsetOf ahead) (now (rows .entry)) (now (hgv .entry)) (now (hgc .entry))) (now (register .entry)) r (now (register .exit)) (now (hgc .exit)) ⌝ }
 {
     verdicts::judge(hgv, rows, register, verdicts);
+    holdings::find_places(
+        mode,
+        register,
+        hgv::body(hgv),
+        hgv::width(hgv),
+        verdicts,
+        found,
+    );
     import_judged(
         mode,
         reception,
@@ -243,7 +241,7 @@ pub fn import(
     }
     let ahead = offsets::ahead(offset);
     let mut verdicts = [0u8; sizes::LINES_MOST];
-    let mut found = [sizes::NO_PLACE; sizes::LINES_MOST];
+    let mut found = [0u16; sizes::LINES_MOST];
     let n = hgv::lines_in(hgv);
     import_lines(
         mode,

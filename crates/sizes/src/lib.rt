@@ -29,9 +29,6 @@ pub const STAMP_FROM: usize = SLOT_END + 1;
 
 pub const SLOTS_MOST: usize = PARTS_MOST;
 
-// No slot has this place.
-pub const NO_PLACE: u16 = 8192;
-
 // The issuer rows.
 pub const ROW: usize = 24;
 

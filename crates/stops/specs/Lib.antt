@@ -1,3 +1,4 @@
 pub mod Stops
+pub mod Clear
 pub mod Promises
 pub mod laws

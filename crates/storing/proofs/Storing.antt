@@ -43,14 +43,14 @@ use Rattle.storing.specs.laws.Steps.{storedIf, Ready, Storing}
 
 module _ (b : List ℕ) (used : ℕ) (e : used ≡ usedIn b) (pan : List ℕ) where
   -- f tells of it
-  pub slot-told : (first f : ℕ) → Stands first (records b) pan f → (i : ℕ) → i ≡ cond (ltb f first) f used → i ≡ placeOf pan (records b)
+  pub slot-told : (told f : ℕ) → Stands told (records b) pan f → (i : ℕ) → i ≡ cond (ltb f told) f used → i ≡ placeOf pan (records b)
   unfolding placeOf
-  slot-told first f s i g = g ∙ go (ltb f first) refl
+  slot-told told f s i g = g ∙ go (ltb f told) refl
     where
-      go : (t : Bool) → ltb f first ≡ t → cond t f used ≡ place (holdsPan pan) (records b)
-      go true h = sym (s .held (ltb-true f first h))
+      go : (t : Bool) → ltb f told ≡ t → cond t f used ≡ place (holdsPan pan) (records b)
+      go true h = sym (s .held (ltb-true f told h))
       go false h =
-          let n : ltb (place (holdsPan pan) (records b)) (length (records b)) ≡ false = sym (place-some (holdsPan pan) (records b)) ∙ s .new (ltb-false f first h) in
+          let n : ltb (place (holdsPan pan) (records b)) (length (records b)) ≡ false = sym (place-some (holdsPan pan) (records b)) ∙ s .new (ltb-false f told h) in
           omega (arith, e, place-most (holdsPan pan) (records b), ltb-false (place (holdsPan pan) (records b)) (length (records b)) n)
 
 -- ---- one line
@@ -204,7 +204,7 @@ standing-left width vs ls n found i b s h x p stamp used y b′ r w =
 
 -- ---- before the first
 
-module _ (stamp b : List ℕ) (first width : ℕ) (lines vs found : List ℕ) (c : CanStore stamp b first width lines vs found) where
+module _ (stamp b : List ℕ) (first told width : ℕ) (lines vs found : List ℕ) (c : CanStore stamp b first told width lines vs found) where
   abbrev ls : List (List ℕ)
   ls = pick good vs (chop width (length vs) lines)
 
@@ -212,10 +212,10 @@ module _ (stamp b : List ℕ) (first width : ℕ) (lines vs found : List ℕ) (c
   can-start =
       record { order = c .order; counted = c .counted; many = refl; lined = c .lined; leads = refl; room = c .room }
 
-  pub standing-start : Standing width vs lines first (records b) found 0
+  pub standing-start : Standing width vs lines told (records b) found 0
   standing-start =
       record {
-        fewer = omega (arith, c .counted);
+        fewer = omega (arith, c .known, c .counted);
         apart = rw (← taken-start width (length vs) vs lines) (c .apart);
         stands = λ j k m g. c .placed j m g;
       }

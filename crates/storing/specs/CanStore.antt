@@ -23,7 +23,7 @@ pub record Stands (n : ℕ) (R : List (List ℕ)) (pan : List ℕ) (f : ℕ) : T
   pub new : n ≤ f → some (holdsPan pan) R ≡ false
 
 -- the register b, of which `first` slots are used, and the lines of this width whose verdicts are 0
-pub record CanStore (stamp b : List ℕ) (first width : ℕ) (lines vs found : List ℕ) : Type 0 where
+pub record CanStore (stamp b : List ℕ) (first told width : ℕ) (lines vs found : List ℕ) : Type 0 where
   pub order : inOrder b ≡ true
   pub counted : first ≡ usedIn b
   -- each keeps the rules of a record, and the stamp is its actor's
@@ -32,5 +32,6 @@ pub record CanStore (stamp b : List ℕ) (first width : ℕ) (lines vs found : L
   pub apart : distinct (map panOf (takenIn width vs lines)) ≡ true
   -- there are slots enough
   pub room : length (storedAll (records b) (map (slotOf stamp) (takenIn width vs lines))) ≤ slotsIn b
-  -- and it is told where their PANs stand
-  pub placed : (i : ℕ) → i < length vs → good (getD vs i 0) ≡ true → Stands first (records b) (panOf (partAt width i lines)) (getD found i 0)
+  -- and places of used slots tell where their PANs stand
+  pub known : told ≤ first
+  pub placed : (i : ℕ) → i < length vs → good (getD vs i 0) ≡ true → Stands told (records b) (panOf (partAt width i lines)) (getD found i 0)

@@ -28,28 +28,28 @@ fn next_used(used: usize, i: usize) -> usize
     used
 }
 
-// The place that was found, or that behind the used slots where none is held.
-fn place_or_next(place: usize, first: usize, used: usize) -> usize
-    ensures { λ r. ⌜ r ≡ cond (ltb place first) place used ⌝ }
+// The place that was found where it is told, or that behind the used slots.
+fn place_or_next(place: usize, told: usize, used: usize) -> usize
+    ensures { λ r. ⌜ r ≡ cond (ltb place told) place used ⌝ }
 {
-    if place < first { place } else { used }
+    if place < told { place } else { used }
 }
 
-// A line's record in the slot that has its PAN, or in the next free one; how many slots are used then. The place of the PAN
-// was found among the first slots before any line was stored.
+// A line's record in the slot that has its PAN, or in the next free one; how many slots are used then. A place below `told`
+// is where the PAN stood before any line was stored.
 fn store(
     register: &mut [u8],
     used: usize,
-    first: usize,
+    told: usize,
     line: &[u8],
     stamp: &[u8],
     place: usize,
 ) -> usize
     requires ready { ⌜ Ready true (now stamp) (now line) (now register) used ⌝ }
-    requires placed { ⌜ Stands first (records (now register)) (panOf (now line)) place ⌝ }
+    requires placed { ⌜ Stands told (records (now register)) (panOf (now line)) place ⌝ }
     ensures { λ r. ⌜ Left (slotsIn (now (register .entry))) (stored (slotOf (now (stamp .entry)) (now (line .entry))) (records (now (register .entry)))) (now (register .exit)) r ⌝ }
 {
-    let slot = place_or_next(place, first, used);
+    let slot = place_or_next(place, told, used);
     records::put_record(register, slot, line, stamp);
     next_used(used, slot)
 }
@@ -58,26 +58,28 @@ fn store(
 fn take_line(
     register: &mut [u8],
     used: usize,
-    first: usize,
+    told: usize,
     verdict: u8,
     line: &[u8],
     stamp: &[u8],
     place: usize,
 ) -> usize
     requires ready { ⌜ Ready (good verdict) (now stamp) (now line) (now register) used ⌝ }
-    requires placed { ⌜ (good verdict ≡ true → Stands first (records (now register)) (panOf (now line)) place) ⌝ }
+    requires placed { ⌜ (good verdict ≡ true → Stands told (records (now register)) (panOf (now line)) place) ⌝ }
     ensures { λ r. ⌜ Left (slotsIn (now (register .entry))) (storedIf (good verdict) (slotOf (now (stamp .entry)) (now (line .entry))) (records (now (register .entry)))) (now (register .exit)) r ⌝ }
 {
     if verdict != 0 {
         return used;
     }
-    store(register, used, first, line, stamp, place)
+    store(register, used, told, line, stamp, place)
 }
 
-// The lines whose verdict is 0, one after the other, in a register of which the first slots are used.
+// The lines whose verdict is 0, one after the other, in a register of which the first slots are used. A place in `found` that
+// is below `told` is where the line's PAN stands; a line with any other is new.
 pub fn store_all(
     register: &mut [u8],
     first: usize,
+    told: usize,
     lines: &[u8],
     width: usize,
     verdicts: &[u8],
@@ -86,7 +88,7 @@ pub fn store_all(
 )
     requires lined { ⌜ length (now verdicts) * width ≤ length (now lines) ⌝ }
     requires judged { ⌜ length (now found) ≡ length (now verdicts) ⌝ }
-    requires storing { ⌜ CanStore (now stamp) (now register) first width (now lines) (now verdicts) (now found) ⌝ }
+    requires storing { ⌜ CanStore (now stamp) (now register) first told width (now lines) (now verdicts) (now found) ⌝ }
     ensures { λ _. ⌜ StoreAll (now (register .entry)) (now (lines .entry)) width (now (verdicts .entry)) (now (stamp .entry)) (now (register .exit)) ⌝ }
 {
     let mut used = first;
@@ -94,7 +96,7 @@ pub fn store_all(
     while i < verdicts.len() {
         let line = texts::part(lines, width, i);
         let place = holdings::place_at(found, i);
-        used = take_line(register, used, first, verdicts[i], line, stamp, place);
+        used = take_line(register, used, told, verdicts[i], line, stamp, place);
         i += 1;
     }
 }

@@ -30,11 +30,12 @@ use Rattle.register.specs.Register.{inOrder}
 use Rattle.slots.specs.laws.Slots.{used-most}
 use Rattle.register.specs.laws.Register.{ordered}
 use Rattle.holdings.specs.Holdings.{holdings}
-use Rattle.holdings.specs.Room.{usedAfter}
-use Rattle.upkeep.specs.Holds.{Holds}
+use Rattle.holdings.specs.Room.{usedBy}
+use Rattle.holdings.specs.laws.Room.{used-by}
 use Rattle.holdings.specs.Places.{placesAfter}
+use Rattle.holdings.specs.laws.Places.{places-tell, length-places}
+use Rattle.upkeep.specs.Holds.{Holds}
 use Rattle.applying.specs.Fit.{Fit, Sought}
-use Rattle.applying.specs.laws.Sought.{NoPlaces, sought}
 use Rattle.pairing.specs.Backwards.{paired}
 use Rattle.receipts.specs.Receipt.{listOf, receptionOf, textsOf, copiesOf, marksOf, takenBy, receiptHolds}
 use Rattle.provider.specs.declared.Counted.{Counted}
@@ -112,55 +113,61 @@ module _ (mode : ℕ) (o : ℤ) (copy h g : List ℕ) (z : first (copyStops mode
     pub as-many : (n : ℕ) → n ≡ linesIn h → n ≡ length ms
     as-many n e = e ∙ sym marks-each
 
-    -- u slots would be used
-    module _ (u : ℕ) (eu : u ≡ usedAfter mode from (records copy) (takenIn w ms ls)) where
-      used-is : u ≡ length (copyFollowing (sent mode o h g) copy)
-      used-is = eu ∙ rw (lines-are, ef) (following-used mode o h g headed said copy)
+    -- found₀ is the block before, and `found` what was found
+    module _ (found₀ found : List ℕ) (m : length found₀ ≡ linesIn h) (f : found ≡ placesAfter mode (records copy) w ls ms found₀) where
+      pub sought : Sought mode (records copy) w ls ms found
+      sought =
+          record {
+            many = length-places mode (records copy) w ls ms found₀ found f (as-many (length found₀) m);
+            places = places-tell mode (records copy) w ls ms found₀ found f;
+          }
 
-      -- 33
-      pub update-full : slotsIn copy < u → (a : Counted) → a ≡ stopCounts 33 → (a ≡ updateAnswer (sent mode o h g) copy) × (copy ≡ copyAfter (sent mode o h g) copy)
-      update-full l a e =
-          let n = update-33 mode o copy h g z said (omega (arith, used-is)) in
-          (e ∙ update-refused mode o copy h g 33 n (λ i. omega arith), copy-stays mode o copy h g 33 n (λ i. omega arith))
+      -- u slots would be used
+      module _ (u : ℕ) (eu : u ≡ usedBy mode from (records copy) ms found) where
+        used-is : u ≡ length (copyFollowing (sent mode o h g) copy)
+        used-is =
+            eu ∙ used-by mode from (records copy) w ls ms found (sought .many) (sought .places)
+            ∙ rw (lines-are, ef) (following-used mode o h g headed said copy)
 
-      module _ (l : u ≤ slotsIn copy) (list : List ℕ) (es : list ≡ listOf g) (reception : List ℕ) (ec : reception ≡ utc o (receptionOf g)) where
-        room : length (copyFollowing (sent mode o h g) copy) ≤ slotsIn copy
-        room = omega (arith, used-is)
+        -- 33
+        pub update-full : slotsIn copy < u → (a : Counted) → a ≡ stopCounts 33 → (a ≡ updateAnswer (sent mode o h g) copy) × (copy ≡ copyAfter (sent mode o h g) copy)
+        update-full l a e =
+            let n = update-33 mode o copy h g z said (omega (arith, used-is)) in
+            (e ∙ update-refused mode o copy h g 33 n (λ i. omega arith), copy-stays mode o copy h g 33 n (λ i. omega arith))
 
-        -- found₀ is the block before, and `found` what was found
-        pub apply-fits : (found₀ found : List ℕ) → NoPlaces found₀ → length found₀ ≡ linesIn h → found ≡ placesAfter mode (records copy) w ls ms found₀
-            → (length ms * w ≤ length ls)
-            × ((inOrder copy ≡ true)
-            × ((length list ≡ listLength)
-            × ((length reception ≡ timeLength)
-            × (Each (λ l. storable (stamp list reception) l ≡ true) (takenIn w ms ls)
-            × (Fit mode from (slotOf (stamp list reception)) (slotsIn copy) (records copy) (takenIn w ms ls) × Sought mode (records copy) w ls ms found)))))
-        apply-fits found₀ found y m f =
-            let s = copy-sound mode copy h z in
-            let t = receipt-holds mode o h g headed said in (
-              lines-fit,
-              (
-                s .ordered,
+        module _ (l : u ≤ slotsIn copy) (list : List ℕ) (es : list ≡ listOf g) (reception : List ℕ) (ec : reception ≡ utc o (receptionOf g)) where
+          room : length (copyFollowing (sent mode o h g) copy) ≤ slotsIn copy
+          room = omega (arith, used-is)
+
+          pub apply-fits : (length ms * w ≤ length ls)
+              × ((inOrder copy ≡ true)
+              × ((length list ≡ listLength)
+              × ((length reception ≡ timeLength)
+              × (Each (λ l. storable (stamp list reception) l ≡ true) (takenIn w ms ls)
+              × (Fit mode from (slotOf (stamp list reception)) (slotsIn copy) (records copy) (takenIn w ms ls) × Sought mode (records copy) w ls ms found)))))
+          apply-fits =
+              let s = copy-sound mode copy h z in
+              let t = receipt-holds mode o h g headed said in (
+                lines-fit,
                 (
-                  rw (es, list-held h g t) (sequence-length (sender h) (listSequence h) (header-list h headed)),
+                  s .ordered,
                   (
-                    rw ec (real-length (utc o (receptionOf g)) (received-real mode o h g headed said)),
+                    rw (es, list-held h g t) (sequence-length (sender h) (listSequence h) (header-list h headed)),
                     (
-                      rw (lines-are, es, ec) (lines-storable mode o h g headed said),
+                      rw ec (real-length (utc o (receptionOf g)) (received-real mode o h g headed said)),
                       (
-                        rw (lines-are, ef, es, ec) (taken-fit mode o h g headed said copy (s .own) room),
-                        sought mode (records copy) w ls ms found₀ found y (as-many (length found₀) m) f,
+                        rw (lines-are, es, ec) (lines-storable mode o h g headed said),
+                        (rw (lines-are, ef, es, ec) (taken-fit mode o h g headed said copy (s .own) room), sought),
                       ),
                     ),
                   ),
                 ),
-              ),
-            )
+              )
 
-        pub update-whole : (a : Counted) → a ≡ successCounts h g
-            → (b : List ℕ) → Holds (slotsIn copy) (holdings mode from (slotOf (stamp list reception)) (records copy) (takenIn w ms ls)) b
-            → (a ≡ updateAnswer (sent mode o h g) copy) × (b ≡ copyAfter (sent mode o h g) copy)
-        unfolding copyWritten copyFollowing
-        update-whole a e b f =
-            let n = update-done mode o copy h g z said room in
-            (e ∙ update-counted mode o copy h g n, f .bytes ∙ rw (lines-are, ef, es, ec) (copy-updated mode o copy h g n))
+          pub update-whole : (a : Counted) → a ≡ successCounts h g
+              → (b : List ℕ) → Holds (slotsIn copy) (holdings mode from (slotOf (stamp list reception)) (records copy) (takenIn w ms ls)) b
+              → (a ≡ updateAnswer (sent mode o h g) copy) × (b ≡ copyAfter (sent mode o h g) copy)
+          unfolding copyWritten copyFollowing
+          update-whole a e b f =
+              let n = update-done mode o copy h g z said room in
+              (e ∙ update-counted mode o copy h g n, f .bytes ∙ rw (lines-are, ef, es, ec) (copy-updated mode o copy h g n))

@@ -6,7 +6,6 @@ ghost use lib.ListN.{length};
 ghost use Rattle.theory.specs.First.{first};
 ghost use Rattle.hgv.specs.Layout.{linesIn};
 ghost use Rattle.offsets.specs.Ahead.{aheadMost, offsetOf};
-ghost use Rattle.applying.specs.laws.Sought.{NoPlaces};
 ghost use Rattle.receipts.specs.Receipt.{marksOf};
 ghost use Rattle.updating.specs.Sent.{sent};
 ghost use Rattle.updating.specs.Update.{ownHolds, copyStops, sentHolds};
@@ -37,8 +36,8 @@ fn copy_stop(mode: u64, copy: &[u8], hgv: &[u8]) -> u64
     rules::first(!stops::is_mode(mode), 21, s23)
 }
 
-// The update by an HGC that holds: `marks` says which lines were taken, `found` has a place that is none for each, and the
-// offset is `ahead` minutes ahead of the least one.
+// The update by an HGC that holds: `marks` says which lines were taken, `found` has a number for each, and the offset is
+// `ahead` minutes ahead of the least one.
 fn update_marked(
     mode: u64,
     ahead: u64,
@@ -52,13 +51,13 @@ fn update_marked(
     requires said { ⌜ sentHolds (sent mode (offsetOf ahead) (now hgv) (now hgc)) ≡ true ⌝ }
     requires marked { ⌜ now marks ≡ marksOf (now hgv) (now hgc) ⌝ }
     requires many { ⌜ length (now found) ≡ linesIn (now hgv) ⌝ }
-    requires none { ⌜ NoPlaces (now found) ⌝ }
     ensures { λ r. ⌜ Update (sent mode (offsetOf ahead) (now (hgv .entry)) (now (hgc .entry))) (now (copy .entry)) r (now (copy .exit)) ⌝ }
 {
     let sender = header::sender(hgv);
     let lines = hgv::body(hgv);
     let width = hgv::width(hgv);
-    let used = holdings::used_after(mode, copy, sender, lines, width, marks, found);
+    holdings::find_places(mode, copy, lines, width, marks, found);
+    let used = holdings::used_after(mode, copy, sender, marks, found);
     if copy.len() / sizes::SLOT < used {
         return provider::refused(33);
     }
@@ -79,7 +78,7 @@ fn update_marked(
     provider::count(hgv, hgc, marks)
 }
 
-// The update by an HGV whose form is right; `marks` has a byte for each of its lines, and `found` a place that is none.
+// The update by an HGV whose form is right; `marks` has a byte for each of its lines, and `found` a number.
 fn update_lines(
     mode: u64,
     ahead: u64,
@@ -93,7 +92,6 @@ fn update_lines(
     requires few { ⌜ ahead ≤ aheadMost ⌝ }
     requires each { ⌜ length (now marks) ≡ linesIn (now hgv) ⌝ }
     requires many { ⌜ length (now found) ≡ linesIn (now hgv) ⌝ }
-    requires none { ⌜ NoPlaces (now found) ⌝ }
     ensures { λ r. ⌜ Update (sent mode (offsetOf ahead) (now (hgv .entry)) (now (hgc .entry))) (now (copy .entry)) r (now (copy .exit)) ⌝ }
 {
     let shown = receipts::reception(hgc);
@@ -116,7 +114,7 @@ pub fn update(mode: u64, offset: i64, copy: &mut [u8], hgv: &[u8], hgc: &[u8]) -
     }
     let ahead = offsets::ahead(offset);
     let mut marks = [0u8; sizes::LINES_MOST];
-    let mut found = [sizes::NO_PLACE; sizes::LINES_MOST];
+    let mut found = [0u16; sizes::LINES_MOST];
     let n = hgv::lines_in(hgv);
     update_lines(
         mode,

@@ -5,7 +5,6 @@ use native.Mathlib.Omega.{arith}
 use Rattle.importer.specs.Handed.{handed}
 use Rattle.importer.specs.laws.Numbers.{number-form, stop-answer, stop-register, stop-hgc}
 use lib.Seq.{length-take-le}
-use Rattle.applying.specs.laws.Sought.{no-places}
 use mir.Syntax.{w64}
 use mir.Val.{toZ, ofZ}
 use mir.ValLaws.{toZ-ofZ}
@@ -47,7 +46,7 @@ import-lines-requires c κs =
     let left = c .before .before .before .before .before .before .if1 .left in
     let m = lines-in-most _ _ _ _ _ _ form left _ n in (
       formed-ahead _ _ _ _ _ _ _ (c .before .before .before .before .before .before .before .before .before .has-local .ensures) _ form left _ (c .before .before .before .before .before .ahead .ensures),
-      (length-take-le _ _ (omega (arith, m)) ∙ n, (length-take-le _ _ (omega (arith, m)) ∙ n, no-places _ m)),
+      (length-take-le _ _ (omega (arith, m)) ∙ n, length-take-le _ _ (omega (arith, m)) ∙ n),
     )
 
 returns-2 : tie.Need-returns-2

@@ -4,7 +4,7 @@ use mathlib.Core.Path.{sym, _∙_}
 use Rattle.offsets.specs.Ahead.{offsetOf}
 use Rattle.importer.specs.Handed.{handed}
 use Rattle.importer.specs.laws.Numbers.{number-judged, stop-answer, stop-register, stop-hgc, done-answer, done-register, done-hgc}
-use Rattle.importer.proofs.Laws.{taken-most, rest-rejected, as-many, accepts}
+use Rattle.importer.proofs.Laws.{taken-most, rest-rejected, accepts}
 use borrow.Author.Needs.{needs}
 use Rattle.importer.proofs.import_judged.Statement.{statement}
 use Rattle.importer.proofs.import_judged.Tie as tie
@@ -14,34 +14,34 @@ sub-rejected c = taken-most _ _ (c .count-taken .ensures)
 
 judged-stop-requires : tie.Need-judged-stop-requires
 judged-stop-requires c κs =
-    let a = c .before .before .before .before .before .before .before .before .before .before .before .args in
-    let f = handed (a .mode) (a .reception .now) (offsetOf (a .ahead)) (a .rows .now) (a .hgv .now) (a .hgc .now) in
-    let (clear, (verdicts, (many, _))) = c .before .before .before .before .before .before .before .before .before .before .before .pre in
-    (clear, (verdicts, (c .before .before .before .count-taken .ensures, (rest-rejected _ _ (c .before .before .before .count-taken .ensures), as-many f _ _ clear verdicts _ many))))
+    let (clear, (verdicts, sought)) = c .before .before .before .before .before .before .before .before .before .before .pre in
+    (clear, (verdicts, (c .before .before .count-taken .ensures, (rest-rejected _ _ (c .before .before .count-taken .ensures), sought))))
 
 returns : tie.Need-returns
 unfolding Import
 returns c =
-    let a = c .before .before .before .before .before .before .before .before .before .before .before .before .before .before .before .before .args in
+    let x = c .before .before .before .before .before .before .before .before .before .before .before .before .before in
+    let a = x .args in
     let f = handed (a .mode) (a .reception .now) (offsetOf (a .ahead)) (a .rows .now) (a .hgv .now) (a .hgc .now) in
-    let n = number-judged f _ (c .before .before .before .before .before .before .before .before .before .before .before .before .before .before .before .before .pre .0) _ (c .before .before .before .before .judged-stop .ensures .0) in
+    let n = number-judged f _ (x .pre .0) _ (c .before .before .judged-stop .ensures) in
     let k = c .before .if1 .taken in
     (c .refused .ensures ∙ stop-answer f _ _ n k, (stop-register f _ _ n k, stop-hgc f _ _ n k))
 
 carry-out-requires : tie.Need-carry-out-requires
 carry-out-requires c κs =
-    let a = c .before .before .before .before .before .before .before .before .before .before .before .before .before .before .before .before .before .before .args in
+    let x = c .before .before .before .before .before .before .before .before .before .before .before .before .before .before in
+    let a = x .args in
     let f = handed (a .mode) (a .reception .now) (offsetOf (a .ahead)) (a .rows .now) (a .hgv .now) (a .hgc .now) in
-    let (clear, (verdicts, (many, none))) = c .before .before .before .before .before .before .before .before .before .before .before .before .before .before .before .before .before .before .pre in
-    let (stopped, placed) = c .before .before .before .before .before .before .judged-stop .ensures in
-    accepts f _ _ clear verdicts _ _ none many placed _ (c .before .before .before .before .before .before .before .before .before .before .count-taken .ensures) _ stopped (c .before .before .before .if1 .left)
+    let (clear, (verdicts, sought)) = x .pre in
+    accepts f _ _ clear verdicts _ sought _ (c .before .before .before .before .before .before .count-taken .ensures) _ (c .before .before .before .judged-stop .ensures) (c .before .before .if1 .left)
 
 returns-2 : tie.Need-returns-2
 unfolding Import
 returns-2 c =
-    let a = c .before .before .before .before .before .before .before .before .before .before .before .before .before .before .before .before .before .before .before .before .before .before .before .args in
+    let x = c .before .before .before .before .before .before .before .before .before .before .before .before .before .before .before .before .before .before .before in
+    let a = x .args in
     let f = handed (a .mode) (a .reception .now) (offsetOf (a .ahead)) (a .rows .now) (a .hgv .now) (a .hgc .now) in
-    let n = sym (number-judged f _ (c .before .before .before .before .before .before .before .before .before .before .before .before .before .before .before .before .before .before .before .before .before .before .before .pre .0) _ (c .before .before .before .before .before .before .before .before .before .before .before .judged-stop .ensures .0)) ∙ c .before .before .before .before .before .before .before .before .if1 .left in
+    let n = sym (number-judged f _ (x .pre .0) _ (c .before .before .before .before .before .before .before .before .judged-stop .ensures)) ∙ c .before .before .before .before .before .before .before .if1 .left in
     let (answered, (stored, confirmed)) = c .before .before .before .before .carry-out .ensures in
     (answered ∙ done-answer f _ n, (stored ∙ done-register f _ n, confirmed ∙ done-hgc f _ n))
 
@@ -55,10 +55,8 @@ import-judged-spec =
     (λ c κs. search needs)
     (λ c. search needs)
     (λ c. search needs)
-    (λ c. search needs)
     returns
     carry-out-requires
-    (λ c. search needs)
     (λ c. search needs)
     (λ c. search needs)
     returns-2)

@@ -6,30 +6,25 @@ use Rattle.hgv.specs.laws.Layout.{is-width}
 use Rattle.offsets.specs.Ahead.{offsetOf}
 use Rattle.importer.specs.Handed.{handed}
 use Rattle.importer.specs.Import.{judgedStops}
-use Rattle.importer.proofs.Laws.{lines-fit, used-few, rejected-most, taken-few, thin-is, slots-are, buffer-is}
+use Rattle.importer.proofs.Laws.{rejected-most, taken-few, thin-is, slots-are, buffer-is}
 use borrow.Author.Needs.{needs}
 use Rattle.importer.proofs.judged_stop.Statement.{statement}
 use Rattle.importer.proofs.judged_stop.Tie as tie
 
 used-after-requires : tie.Need-used-after-requires
-used-after-requires c κs =
-    let x = c .before .before .before .before .before .before .before .before .before .before .before in
-    let a = x .args in
-    let f = handed (a .mode) (a .reception .now) (offsetOf (a .ahead)) (a .rows .now) (a .hgv .now) (a .hgc .now) in
-    let (clear, (verdicts, (_, (bad, many)))) = x .pre in
-    (lines-fit f _ _ _ clear verdicts bad _ (c .before .before .body .ensures) _ (c .before .width .ensures), (many, used-few f _ _ _ clear verdicts bad))
+used-after-requires c κs = c .before .before .before .before .before .before .before .before .pre .1 .1 .1 .1 .many
 
 length-for-requires : tie.Need-length-for-requires
 length-for-requires c κs =
-    let x = c .before .before .before .before .before .before .before .before .before .before .before .before .before .before .before in
+    let x = c .before .before .before .before .before .before .before .before .before .before in
     let a = x .args in
     let f = handed (a .mode) (a .reception .now) (offsetOf (a .ahead)) (a .rows .now) (a .hgv .now) (a .hgc .now) in
     let (clear, (verdicts, (_, (bad, _)))) = x .pre in
-    (rw (c .width2 .ensures) (is-width _ .1), rejected-most f _ _ _ clear verdicts bad)
+    (rw (c .width .ensures) (is-width _ .1), rejected-most f _ _ _ clear verdicts bad)
 
 is-thin-requires : tie.Need-is-thin-requires
 is-thin-requires c κs =
-    let x = c .before .before .before .before .before .before .before .before .before .before .before .before .before .before .before .before .before .before .before in
+    let x = c .before .before .before .before .before .before .before .before .before .before .before .before .before .before in
     let a = x .args in
     let f = handed (a .mode) (a .reception .now) (offsetOf (a .ahead)) (a .rows .now) (a .hgv .now) (a .hgc .now) in
     let (clear, (verdicts, (good, (bad, _)))) = x .pre in
@@ -39,26 +34,19 @@ returns : tie.Need-returns
 unfolding judgedStops first
 returns c =
     let d = c .before .before .before in
-    let x = d .before .before .before .before .before .before .before .before .before .before .before .before .before .before .before .before .before .before in
+    let u = d .before .before .before .before in
+    let x = u .before .before .before .before .before .before .before .before .before in
     let a = x .args in
     let f = handed (a .mode) (a .reception .now) (offsetOf (a .ahead)) (a .rows .now) (a .hgv .now) (a .hgc .now) in
-    let (clear, (verdicts, (good, (bad, _)))) = x .pre in
-    let used = d .before .before .before .before .before .before .used-after .ensures in
-    let width = d .before .before .before .before .before .before .before .before .width .ensures in
-    let body = d .before .before .before .before .before .before .before .before .before .body .ensures in
-    let sender = d .before .before .before .before .before .before .before .before .before .before .sender .ensures in (
-      chosen _ _ _ _ _ _ (c .first3 .ensures) (thin-is f _ _ _ clear verdicts bad _ (c .before .before .sender2 .ensures) _ good _ (c .before .is-thin .ensures)) (
-          chosen _ _ _ _ _ _ (d .first2 .ensures) (slots-are f _ _ _ clear verdicts bad _ _ sender body _ width _ (used .0)) (
-          chosen _ _ _ _ _ _ (d .before .first .ensures) (buffer-is f _ _ _ clear verdicts bad _ (d .before .before .before .width2 .ensures) _ (d .before .before .length-for .ensures)) refl)),
-      rw (width, body) at (used .1),
-    )
+    let (clear, (verdicts, (good, (bad, sought)))) = x .pre in
+    chosen _ _ _ _ _ _ (c .first3 .ensures) (thin-is f _ _ _ clear verdicts bad _ (c .before .before .sender2 .ensures) _ good _ (c .before .is-thin .ensures)) (
+    chosen _ _ _ _ _ _ (d .first2 .ensures) (slots-are f _ _ _ clear verdicts bad _ (u .before .sender .ensures) _ sought _ (u .used-after .ensures)) (
+    chosen _ _ _ _ _ _ (d .before .first .ensures) (buffer-is f _ _ _ clear verdicts bad _ (d .before .before .before .width .ensures) _ (d .before .before .length-for .ensures)) refl))
 
 pub judged-stop-spec : {M : Type 1} → statement M
 judged-stop-spec =
     tie.close
     (tie.spec
-    (λ c κs. search needs)
-    (λ c κs. search needs)
     (λ c κs. search needs)
     used-after-requires
     (λ c κs. search needs)
@@ -68,5 +56,4 @@ judged-stop-spec =
     (λ c κs. search needs)
     is-thin-requires
     (λ c κs. search needs)
-    (λ c. search needs)
     returns)

@@ -17,7 +17,8 @@ use Rattle.offsets.specs.laws.Shift.{received, local-real}
 use Rattle.slots.specs.Slots.{slotsIn, records}
 use Rattle.thinness.specs.Thin.{thin}
 use Rattle.stops.specs.Stops.{callStops, fileStops, formStops, formStop}
-use Rattle.stops.specs.laws.Clear.{Clear, clear, clear-none}
+use Rattle.stops.specs.Clear.{Clear}
+use Rattle.stops.specs.laws.Clear.{clear, clear-none}
 use Rattle.importer.specs.Handed.{Handed}
 use Rattle.importer.specs.Import.{judged, following, confirmed, judgedStops, shown, timed, stops, importNumber, refusal, success, registerWritten, hgcWritten, importAnswer, registerAfter, hgcAfter}
 

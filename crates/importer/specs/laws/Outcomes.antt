@@ -1,13 +1,21 @@
--- Two outcomes of one import are one: the answer, the register and the HGC's buffer. Assumes nothing.
+-- Two outcomes of one call are one, for each public function of this crate: the answer, and at an import the register and the
+-- HGC's buffer. Assumes nothing.
 use mathlib.Core.Path.{_≡_}
 use mathlib.Core.List.{List}
 use Prim.Native.Nat.{ℕ}
 use Rattle.theory.specs.laws.Outcome.{one-outcome}
 use Rattle.importer.specs.declared.Imported.{Imported}
 use Rattle.importer.specs.Handed.{Handed}
-use Rattle.importer.specs.Promises.{Import}
+use Rattle.importer.specs.Promises.{Import, ImportJudged, Refused}
 
 pub import-one : (f : Handed) (register : List ℕ) (r r′ : Imported) (b b′ g g′ : List ℕ) → Import f register r b g → Import f register r′ b′ g′
     → (r ≡ r′) × ((b ≡ b′) × (g ≡ g′))
 unfolding Import
 import-one f register r r′ b b′ g g′ o o′ = (one-outcome (o .0) (o′ .0), (one-outcome (o .1 .0) (o′ .1 .0), one-outcome (o .1 .1) (o′ .1 .1)))
+
+pub import-judged-one : (f : Handed) (register : List ℕ) (r r′ : Imported) (b b′ g g′ : List ℕ) → ImportJudged f register r b g → ImportJudged f register r′ b′ g′
+    → (r ≡ r′) × ((b ≡ b′) × (g ≡ g′))
+import-judged-one = import-one
+
+pub refused-one : (number : ℕ) (r s : Imported) → Refused number r → Refused number s → r ≡ s
+refused-one number r s = one-outcome

@@ -36,7 +36,7 @@ use Rattle.frames.specs.laws.Frames.{length-foot, foot-form}
 use Rattle.claims.specs.Claims.{versionHolds, receiverHolds, countHolds}
 use Rattle.register.specs.Register.{inOrder}
 use Rattle.stops.specs.Stops.{modeHolds, fullWith220001, addressed}
-use Rattle.stops.specs.laws.Clear.{Clear}
+use Rattle.stops.specs.Clear.{Clear}
 use Rattle.accounts.specs.Account.{accountLength, accountLine}
 use Rattle.accounts.specs.laws.Account.{line-type, line-end}
 use Rattle.writer.specs.Given.{Given}

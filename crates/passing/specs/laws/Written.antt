@@ -47,7 +47,7 @@ use Rattle.offsets.specs.laws.Shift.{local-real}
 use Rattle.importer.specs.Handed.{Handed, handed}
 use Rattle.importer.specs.Import.{judged, fileStamp, following, confirmed, judgedStops, success}
 use Rattle.importer.specs.Promises.{Import}
-use Rattle.stops.specs.laws.Clear.{Clear}
+use Rattle.stops.specs.Clear.{Clear}
 use Rattle.importer.specs.laws.Numbers.{number-judged}
 use Rattle.demands.specs.Verdicts.{Verdicts}
 use Rattle.demands.specs.laws.Judging.{verdicts-there}

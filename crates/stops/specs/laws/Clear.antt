@@ -1,6 +1,7 @@
--- What was handed over where no stop from 21 to 32 is given. Assumes nothing.
+-- No stop from 21 to 32 is given where what was handed over is clear of each, and only there; with an index, 36 among them.
+-- Assumes nothing.
 use mathlib.Core.Path.{_≡_, refl, sym, _∙_}
-use mathlib.Core.Bool.{Bool, true, false}
+use mathlib.Core.Bool.{Bool}
 use mathlib.Core.List.{List}
 use Prim.Native.Nat.{ℕ, _≤_}
 use borrow.Author.Tests.{not-false, ltb-false, le-ltb}
@@ -13,21 +14,8 @@ use Rattle.header.specs.Header.{headerHolds}
 use Rattle.claims.specs.Claims.{versionHolds, countHolds}
 use Rattle.register.specs.Register.{inOrder}
 use Rattle.slots.specs.Slots.{slotsIn}
-use Rattle.stops.specs.Stops.{modeHolds, fullWith220001, addressed, callStops, fileStops, formStops, formStop, indexShort, indexedFormStops, indexedFormStop}
-
-pub record Clear (mode : ℕ) (timed : Bool) (register b h : List ℕ) : Type 0 where
-  pub moded : modeHolds mode ≡ true
-  pub received : timed ≡ true
-  pub ordered : inOrder register ≡ true
-  pub rowed : rowsHold b ≡ true
-  pub sized : lengthHolds h ≡ true
-  pub headed : headerHolds h ≡ true
-  pub versioned : versionHolds h ≡ true
-  pub fitting : fullWith220001 mode h ≡ false
-  pub sent : addressed b h ≡ true
-  pub counted : countHolds h ≡ true
-  pub footed : footerHolds h ≡ true
-  pub framed : framesHold h ≡ true
+use Rattle.stops.specs.Stops.{modeHolds, addressed, callStops, fileStops, formStops, formStop, indexShort, indexedFormStops, indexedFormStop}
+use Rattle.stops.specs.Clear.{Clear}
 
 module _ (mode : ℕ) (timed : Bool) (register b h : List ℕ) where
   pub clear : formStop mode timed register b h ≡ 0 → Clear mode timed register b h

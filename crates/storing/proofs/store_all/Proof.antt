@@ -18,18 +18,18 @@ use Rattle.storing.proofs.store_all.Statement.{statement}
 use Rattle.storing.proofs.store_all.Tie as tie
 
 abbrev Inv-loop : tie.InvT-loop
-Inv-loop register₀ first lines width verdicts stamp found used₀ i₀ register used i =
+Inv-loop register₀ first told lines width verdicts stamp found used₀ i₀ register used i =
     (i ≤ length verdicts)
     × Storing stamp (slotsIn register₀) (storedAll (records register₀) (map (slotOf stamp) (takenIn width verdicts lines))) (takenFrom width (length verdicts) verdicts lines i) register used
-    × Standing width verdicts lines first (records register) found i
+    × Standing width verdicts lines told (records register) found i
 
 abbrev μ-loop : tie.MeasureT-loop
-μ-loop register₀ first lines width verdicts stamp found used₀ i₀ register used i = length verdicts - i
+μ-loop register₀ first told lines width verdicts stamp found used₀ i₀ register used i = length verdicts - i
 
 loop-holds : tie.Need-loop-holds Inv-loop μ-loop
 loop-holds c =
     let p = c .before .before .before .before .before .pre .1 .1 in
-    (omega arith, storing-start _ _ _ _ _ _ _ _ (can-start _ _ _ _ _ _ _ p), standing-start _ _ _ _ _ _ _ p)
+    (omega arith, storing-start _ _ _ _ _ _ _ _ (can-start _ _ _ _ _ _ _ _ p), standing-start _ _ _ _ _ _ _ _ p)
 
 part-requires : tie.Need-part-requires Inv-loop μ-loop
 part-requires c κs = part-fits _ _ (c .before .loop .i) _ (c .before .before .before .before .before .before .before .pre .0) (c .loop-test .taken)
@@ -56,7 +56,7 @@ loop-again c =
     (omega (arith, t), storing-turn _ _ _ _ _ _ (a .verdicts .now) (a .lines .now) _ (x .loop .inv .1) t _ p _ _ w, standing-left _ (a .verdicts .now) (a .lines .now) _ _ _ _ (x .loop .inv .2) t _ p _ _ r _ _ w)
 
 same-length : tie.Need-same-length Inv-loop μ-loop
-same-length c = storing-length _ _ _ _ _ _ _ _ _ (can-start _ _ _ _ _ _ _ (c .before .before .before .before .before .before .before .pre .1 .1)) (c .before .loop .inv .1)
+same-length c = storing-length _ _ _ _ _ _ _ _ _ (can-start _ _ _ _ _ _ _ _ (c .before .before .before .before .before .before .before .pre .1 .1)) (c .before .loop .inv .1)
 
 returns : tie.Need-returns Inv-loop μ-loop
 returns c =

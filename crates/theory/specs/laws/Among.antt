@@ -6,14 +6,14 @@ use Prim.Native.Nat.{ℕ, zero, suc, _+_, _≤_, _<_}
 use native.Mathlib.Numerals.{add-one}
 use native.Mathlib.Omega.{arith}
 use lib.Dec.{eqb}
-use lib.ListN.{length, drop, getD}
+use lib.ListN.{length, drop, getD, drop-of-length-le}
 use lib.Seq.{drop-cons}
 use borrow.Author.Tests.{ne-eqb}
 use Rattle.theory.specs.Walk.{each, some}
 use Rattle.theory.specs.Count.{bump}
 use Rattle.theory.specs.laws.Count.{bump-add}
 use Rattle.theory.specs.Keep.{onto, sift}
-use Rattle.theory.specs.laws.Keep.{length-onto}
+use Rattle.theory.specs.laws.Keep.{length-sift-onto}
 use Rattle.theory.specs.Pick.{good, pick}
 use Rattle.theory.specs.Parts.{chop, partAt}
 use Rattle.theory.specs.laws.Parts.{partsFrom, parts-start, parts-step, parts-end}
@@ -55,20 +55,10 @@ module _ (w n : ℕ) (vs b : List ℕ) where
 unfoldable pub Among : (List ℕ → Bool) → ℕ → ℕ → List ℕ → List ℕ → ℕ → Type 0
 Among q w n vs b i = some q (pick good vs (chop w n b)) ≡ some q (takenFrom w n vs b i)
 
--- ---- how many of them pass
-
--- k of those before the place i do
-unfoldable pub CountAmong : (List ℕ → Bool) → ℕ → ℕ → List ℕ → List ℕ → ℕ → ℕ → Type 0
-CountAmong q w n vs b i k = length (sift q (pick good vs (chop w n b))) ≡ k + length (sift q (takenFrom w n vs b i))
-
 module _ (q : List ℕ → Bool) (w n : ℕ) (vs b : List ℕ) where
   pub among-start : Among q w n vs b 0
   unfolding Among
   among-start = rw (taken-start w n vs b)
-
-  pub count-among-start : CountAmong q w n vs b 0 0
-  unfolding CountAmong
-  count-among-start = rw (taken-start w n vs b) (omega arith)
 
   module _ (i : ℕ) (a : Among q w n vs b i) where
     pub among-end : n ≤ i → some q (pick good vs (chop w n b)) ≡ false
@@ -88,24 +78,32 @@ module _ (q : List ℕ → Bool) (w n : ℕ) (vs b : List ℕ) where
       pub among-off : eqb (getD vs i 0) 0 && r ≡ true → some q (pick good vs (chop w n b)) ≡ true
       among-off t = step ∙ rw t
 
-  module _ (i k : ℕ) (a : CountAmong q w n vs b i k) where
-    pub count-among-end : n ≤ i → k ≡ length (sift q (pick good vs (chop w n b)))
-    unfolding CountAmong sift
-    count-among-end h = let e : length (sift q (takenFrom w n vs b i)) ≡ 0 = rw (taken-end w n vs b i h) in omega arith
+-- ---- how many pass, of anything that has verdicts
 
-    -- x is the part, and m counts it where it was taken and passed
-    pub count-among-turn : i < n → i < length vs → (x : List ℕ) → x ≡ partAt w i b → (m : ℕ) → m ≡ bump (good (getD vs i 0) && q x) 0 → CountAmong q w n vs b (i + 1) (k + m)
-    unfolding CountAmong sift onto bump
-    count-among-turn h l x p m f =
-        let g : Bool = good (getD vs i 0) in
-        let s : length (sift q (takenFrom w n vs b i)) ≡ bump (g && q x) (length (sift q (takenFrom w n vs b (i + 1)))) =
-        rw (taken-step w n vs b i h l, ← p) (length-sift-onto g x (takenFrom w n vs b (i + 1))) in
-        let t : bump (g && q x) 0 + length (sift q (takenFrom w n vs b (i + 1))) ≡ bump (g && q x) (length (sift q (takenFrom w n vs b (i + 1)))) = bump-add (g && q x) 0 _ ∙ omega arith in
+-- k of those before the place i do
+unfoldable pub CountAmong : {A : Type 0} → (A → Bool) → List ℕ → List A → ℕ → ℕ → Type 0
+CountAmong q vs xs i k = length (sift q (pick good vs xs)) ≡ k + length (sift q (pick good (drop i vs) (drop i xs)))
+
+module _ {A : Type 0} (q : A → Bool) (vs : List ℕ) (xs : List A) where
+  pub count-among-start : CountAmong q vs xs 0 0
+  unfolding CountAmong
+  count-among-start = omega arith
+
+  module _ (i k : ℕ) (a : CountAmong q vs xs i k) where
+    pub count-among-end : length vs ≤ i → k ≡ length (sift q (pick good vs xs))
+    unfolding CountAmong sift pick
+    count-among-end h = let e : length (sift q (pick good (drop i vs) (drop i xs))) ≡ 0 = rw (drop-of-length-le vs h) in omega arith
+
+    -- m counts what stands at i where it was taken and passed
+    pub count-among-turn : i < length vs → i < length xs → (d : A) (m : ℕ) → m ≡ bump (good (getD vs i 0) && q (getD xs i d)) 0 → CountAmong q vs xs (i + 1) (k + m)
+    unfolding CountAmong pick
+    count-among-turn h l d m f =
+        let n : ℕ = length (sift q (pick good (drop (i + 1) vs) (drop (i + 1) xs))) in
+        let t : Bool = good (getD vs i 0) && q (getD xs i d) in
+        let s : length (sift q (pick good (drop i vs) (drop i xs))) ≡ bump t n =
+        rw (add-one i, drop-cons vs i 0 h, drop-cons xs i d l) (length-sift-onto q (good (getD vs i 0)) (getD xs i d) _) in
+        let e : bump t 0 + n ≡ bump t n = bump-add t 0 n ∙ omega arith in
         omega arith
-      where
-        length-sift-onto : (c : Bool) (y : List ℕ) (ys : List (List ℕ)) → length (sift q (onto c y ys)) ≡ bump (c && q y) (length (sift q ys))
-        length-sift-onto true y ys = length-onto (q y) y (sift q ys)
-        length-sift-onto false y ys = refl
 
 -- ---- each of them passes: those from the place i on decide
 

@@ -63,6 +63,11 @@ module _ {A : Type 0} (p : A → Bool) where
   sift-length [] = omega arith
   sift-length (x ∷ xs) = rw (length-onto (p x) x (sift p xs)) (bump-le (p x) _ _ (sift-length xs))
 
+  pub length-sift-onto : (b : Bool) (x : A) (xs : List A) → length (sift p (onto b x xs)) ≡ bump (b && p x) (length (sift p xs))
+  unfolding sift onto bump
+  length-sift-onto true x xs = length-onto (p x) x (sift p xs)
+  length-sift-onto false x xs = refl
+
   -- each passes or does not
   pub sift-counts : (xs : List A) → length (sift p xs) + length (sift (λ x. not (p x)) xs) ≡ length xs
   unfolding sift bump

@@ -1,7 +1,6 @@
 -- Assumes nothing.
 use Rattle.updating.specs.Promises.{Update}
 use lib.Seq.{length-take-le}
-use Rattle.applying.specs.laws.Sought.{no-places}
 use Rattle.updating.specs.laws.Numbers.{update-copy, update-refused, copy-stays}
 use Rattle.updating.proofs.Steps.{copy-most, update-out}
 use mathlib.Core.Path.{_≡_, sym, _∙_}
@@ -53,7 +52,7 @@ update-lines-requires c κs =
     let left = c .before .before .before .before .before .before .before .if1 .left in
     let m = copy-most _ _ _ _ form left _ n in
     let few : c .before .before .before .before .ahead .result ≤ aheadMost = rw (c .before .before .before .before .ahead .ensures) (ahead-most _ (sym (c .before .before .before .before .before .before .is-offset .ensures) ∙ not-false _ (c .before .before .before .before .before .if2 .left))) in
-    (sym form ∙ left, (few, (length-take-le _ _ (omega (arith, m)) ∙ n, (length-take-le _ _ (omega (arith, m)) ∙ n, no-places _ m))))
+    (sym form ∙ left, (few, (length-take-le _ _ (omega (arith, m)) ∙ n, length-take-le _ _ (omega (arith, m)) ∙ n)))
 
 returns-3 : tie.Need-returns-3
 returns-3 c =

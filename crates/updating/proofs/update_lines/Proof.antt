@@ -16,7 +16,7 @@ update-marked-requires c κs =
     let p = c .before .before .before .before .before .before .before .before .before .before .before .before .before .before .before .pre in
     let held = c .before .before .before .before .before .before .before .is-receipt .ensures in
     let k = c .before .before .before .if1 .left in
-    (p .0, (said _ _ _ _ (p .1 .0) _ (held .0) _ (rw (c .before .before .before .before .before .before .before .before .before .reception .ensures) at (c .before .before .before .before .has-utc .ensures)) k, (marked _ _ _ (held .0) _ k _ (held .1), (p .1 .1 .1 .0, p .1 .1 .1 .1))))
+    (p .0, (said _ _ _ _ (p .1 .0) _ (held .0) _ (rw (c .before .before .before .before .before .before .before .before .before .reception .ensures) at (c .before .before .before .before .has-utc .ensures)) k, (marked _ _ _ (held .0) _ k _ (held .1), p .1 .1 .1)))
 
 pub update-lines-spec : {M : Type 1} → statement M
 update-lines-spec =
