@@ -1,0 +1,62 @@
+-- The first line that has a PAN stands for all that have it. Assumes nothing.
+use mathlib.Core.Path.{_≡_, refl, sym, ap, _∙_}
+use mathlib.Core.Bool.{Bool, true, false, true≢false}
+use mathlib.Core.List.{List, [], _∷_}
+use Prim.Native.Nat.{ℕ, zero, suc, _≤_, _<_}
+use native.Mathlib.Omega.{arith}
+use lib.ListN.{length, getD}
+use Rattle.theory.specs.laws.Same.{eqs-true, eqs-refl}
+use Rattle.theory.specs.Parts.{chop, partAt}
+use Rattle.theory.specs.laws.Parts.{length-chop}
+use Rattle.theory.specs.laws.Join.{getD-chop}
+use Rattle.theory.specs.Place.{place, placeOn}
+use Rattle.theory.specs.laws.Place.{place-hit}
+use Rattle.columns.specs.Columns.{panOf}
+use Rattle.slots.specs.Search.{holdsPan, placeOf}
+use Rattle.judging.specs.Places.{placesOf}
+
+-- the PAN of the line at the place i
+unfoldable pub panAt : ℕ → List ℕ → ℕ → List ℕ
+panAt width lines i = panOf (partAt width i lines)
+
+-- of the line at the place i, the first of n lines that has its PAN
+unfoldable pub firstAt : ℕ → List ℕ → ℕ → ℕ → ℕ
+firstAt width lines n i = placeOf (panAt width lines i) (chop width n lines)
+
+-- of each of n lines
+abbrev pub firstsOf : ℕ → List ℕ → ℕ → List ℕ
+firstsOf width lines n = placesOf (chop width n lines) width lines n
+
+place-before : (q : List ℕ → Bool) (xs : List (List ℕ)) (i : ℕ) → i < length xs → q (getD xs i []) ≡ true → place q xs ≤ i
+unfolding place placeOn
+place-before q [] i h e = absurd (omega arith)
+place-before q (x ∷ xs) i h e = go (q x) refl (λ j. place-before q xs j) i h e
+  where
+    go : (b : Bool) → q x ≡ b → ((j : ℕ) → j < length xs → q (getD xs j []) ≡ true → place q xs ≤ j) → (i : ℕ) → i < suc (length xs) → q (getD (x ∷ xs) i []) ≡ true → placeOn b (place q xs) ≤ i
+    go true f ih i h e = omega arith
+    go false f ih zero h e = absurd (true≢false (sym e ∙ f))
+    go false f ih (suc i) h e = omega (arith, ih i (omega arith) e)
+
+module _ (width : ℕ) (lines : List ℕ) (n : ℕ) where
+  abbrev ls : List (List ℕ)
+  ls = chop width n lines
+
+  -- it is not behind the line
+  pub first-within : (i : ℕ) → i < n → firstAt width lines n i ≤ i
+  unfolding firstAt placeOf holdsPan panAt
+  first-within i h =
+      place-before (holdsPan (panAt width lines i)) ls i (rw (length-chop width n lines) h) (rw (getD-chop width n lines i h) (eqs-refl (panAt width lines i)))
+
+  -- and has the PAN itself
+  first-has : (i : ℕ) → i < n → panOf (getD ls (firstAt width lines n i) []) ≡ panAt width lines i
+  unfolding firstAt placeOf holdsPan
+  first-has i h =
+      eqs-true _ _ (place-hit (holdsPan (panAt width lines i)) ls (omega (arith, first-within i h, length-chop width n lines)))
+
+  -- so lines have one PAN exactly where one line is the first of both
+  pub same-first : (i j : ℕ) → panAt width lines i ≡ panAt width lines j → firstAt width lines n i ≡ firstAt width lines n j
+  unfolding firstAt
+  same-first i j e = ap (λ (t : List ℕ). placeOf t ls) e
+
+  pub first-same : (i j : ℕ) → i < n → j < n → firstAt width lines n i ≡ firstAt width lines n j → panAt width lines i ≡ panAt width lines j
+  first-same i j h k e = sym (first-has i h) ∙ ap (λ (a : ℕ). panOf (getD ls a [])) e ∙ first-has j k
