@@ -46,13 +46,17 @@ module _ (mode : ℕ) (timed : Bool) (register b h : List ℕ) where
   -- ---- the same with an index of k numbers
   module _ (k : ℕ) where
     -- where it is long enough the stops of form are those of the import
-    pub indexed-same : slotsIn register ≤ k → indexedFormStop mode timed register b k h ≡ formStop mode timed register b h
+    indexed-same : slotsIn register ≤ k → indexedFormStop mode timed register b k h ≡ formStop mode timed register b h
     unfolding indexedFormStop indexedFormStops formStop formStops callStops indexShort first choose
     indexed-same l = rw (le-ltb k (slotsIn register) l)
 
-    pub indexed-long : indexedFormStop mode timed register b k h ≡ 0 → slotsIn register ≤ k
+    indexed-long : indexedFormStop mode timed register b k h ≡ 0 → slotsIn register ≤ k
     unfolding indexedFormStop indexedFormStops callStops fileStops indexShort numbered fitsAt
     indexed-long e = ltb-false k (slotsIn register) (none-at 36 (first-clear (indexedFormStops mode timed register b k h) refl e))
 
-    pub indexed-clear : indexedFormStop mode timed register b k h ≡ 0 → Clear mode timed register b h
-    indexed-clear e = clear (sym (indexed-same (indexed-long e)) ∙ e)
+    -- n is what the stops with the index say: none holds, so it is long enough, and none of the import's does
+    pub indexed-none : (n : ℕ) → n ≡ indexedFormStop mode timed register b k h → n ≡ 0 → (slotsIn register ≤ k) × (0 ≡ formStop mode timed register b h)
+    indexed-none n e z =
+        let none = sym e ∙ z in
+        let l = indexed-long none in
+        (l, sym none ∙ indexed-same l)

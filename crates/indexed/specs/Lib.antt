@@ -1,0 +1,3 @@
+pub mod Indexed
+pub mod Promises
+pub mod laws
