@@ -102,7 +102,8 @@ module _ (rows from : List ℕ) (R : List (List ℕ)) (width : ℕ) (lines : Lis
       walking-read S found f = omega (arith, w .size, length-places S width lines n found f)
 
       -- a is where the line's PAN was found, and x is the line
-      pub walking-place : (found : List ℕ) → found ≡ placesOf R width lines n → (a : ℕ) → a ≡ getD found i 0 → (x : List ℕ) → x ≡ partAt width i lines → a ≡ placeOf (panOf x) R
+      pub walking-place : (found : List ℕ) → found ≡ placesOf R width lines n → (a : ℕ) → a ≡ getD found i 0 → (x : List ℕ) → x ≡ partAt width i lines
+          → a ≡ placeOf (panOf x) R
       walking-place found f a p x q = p ∙ places-told R width lines n found f i h′ ∙ rw q
 
       -- a is the first line that has the line's PAN
@@ -167,12 +168,13 @@ zeros-fit n width k marks e h =
     let s : length marks ≡ n = rw e (length-replicate n 0) in
     (rw s h, omega arith)
 
--- ---- a file
-
+-- a block of zeros cut to n
 pub zeros-cut : (n m : ℕ) → n ≤ m → take {A = ℕ} n (replicate m 0) ≡ replicate n 0
 zeros-cut zero m h = refl
 zeros-cut (suc n) zero h = absurd (omega arith)
 zeros-cut (suc n) (suc m) h = ap (λ (s : List ℕ). 0 ∷ s) (zeros-cut n m (omega arith))
+
+-- ---- a file
 
 -- n is the number of its lines
 pub lines-few : (h : List ℕ) → lengthHolds h ≡ true → (n : ℕ) → n ≡ linesIn h → n ≤ linesMost
@@ -198,7 +200,8 @@ module _ (b : List ℕ) (o : inOrder b ≡ true) (k : List ℕ) (e : k ≡ usedP
 
 -- and the file h is judged beside them
 module _ (h b k : List ℕ) (e : k ≡ usedPart b) (l : List ℕ) (f : l ≡ body h) (w : ℕ) (g : w ≡ widthOf h) (n : ℕ) (q : n ≡ linesIn h) where
-  pub file-judged : (rows from : List ℕ) → from ≡ sender h → (vs : List ℕ) → vs ≡ verdictsOf rows from (slotsOf k) (chop w n l) → vs ≡ fileVerdicts rows (records b) h
+  pub file-judged : (rows from : List ℕ) → from ≡ sender h → (vs : List ℕ) → vs ≡ verdictsOf rows from (slotsOf k) (chop w n l)
+      → vs ≡ fileVerdicts rows (records b) h
   unfolding fileVerdicts linesOf
   file-judged rows from s vs v = v ∙ rw (e, slots-used b, s, f, g, q)
 

@@ -27,12 +27,14 @@ firstAt width lines n i = placeOf (panAt width lines i) (chop width n lines)
 abbrev pub firstsOf : ℕ → List ℕ → ℕ → List ℕ
 firstsOf width lines n = placesOf (chop width n lines) width lines n
 
+-- where one passes, the first that does is not behind it
 place-before : (q : List ℕ → Bool) (xs : List (List ℕ)) (i : ℕ) → i < length xs → q (getD xs i []) ≡ true → place q xs ≤ i
 unfolding place placeOn
 place-before q [] i h e = absurd (omega arith)
 place-before q (x ∷ xs) i h e = go (q x) refl (λ j. place-before q xs j) i h e
   where
-    go : (b : Bool) → q x ≡ b → ((j : ℕ) → j < length xs → q (getD xs j []) ≡ true → place q xs ≤ j) → (i : ℕ) → i < suc (length xs) → q (getD (x ∷ xs) i []) ≡ true → placeOn b (place q xs) ≤ i
+    go : (b : Bool) → q x ≡ b → ((j : ℕ) → j < length xs → q (getD xs j []) ≡ true → place q xs ≤ j)
+        → (i : ℕ) → i < suc (length xs) → q (getD (x ∷ xs) i []) ≡ true → placeOn b (place q xs) ≤ i
     go true f ih i h e = omega arith
     go false f ih zero h e = absurd (true≢false (sym e ∙ f))
     go false f ih (suc i) h e = omega (arith, ih i (omega arith) e)

@@ -21,6 +21,7 @@ use Rattle.slots.specs.Search.{holdsPan, placeOf, ofActor, holdsForeign, heldBy
 unfoldable pub foreignAt : List ℕ → List (List ℕ) → ℕ → Bool
 foreignAt who R at = ltb at (length R) && not (ofActor who (getD R at []))
 
+-- a PAN that none has, none has under another actor
 none-foreign : (pan who : List ℕ) (R : List (List ℕ)) → mem pan (map panOf R) ≡ false → some (holdsForeign pan who) R ≡ false
 unfolding mem some holdsForeign holdsPan
 none-foreign pan who [] h = refl

@@ -1,13 +1,11 @@
 -- L12 by flags: the flag at the first line that has a PAN says whether a taken line has it. Assumes nothing.
 use mathlib.Core.Path.{_≡_, refl, sym, _∙_}
-use mathlib.Core.Bool.{Bool, true, false, _&&_, _||_}
+use mathlib.Core.Bool.{Bool, true, false, _&&_, _||_, true≢false}
 use mathlib.Core.List.{List, [], _∷_, _++_}
 use Prim.Native.Nat.{ℕ, zero, suc, _+_, _<_}
 use native.Mathlib.Omega.{arith}
-use lib.Dec.{eqb}
 use lib.ListN.{length, getD, set, replicate, length-set, length-replicate}
 use lib.Seq.{getD-set-same, getD-set-other, take-set-le}
-use borrow.Author.Tests.{eqb-true, eqb-false}
 use Rattle.theory.specs.laws.Truth.{and-none, and-true, or-false, or-assoc}
 use Rattle.theory.specs.Same.{eqs}
 use Rattle.theory.specs.laws.Same.{eqs-true, eq-eqs}
@@ -47,7 +45,8 @@ zero-at (suc n) (suc a) = zero-at n a
 
 module _ (width : ℕ) (lines : List ℕ) where
   -- one more line judged
-  named-next : (vs : List ℕ) (i v : ℕ) (pan : List ℕ) → i < length vs → named width lines (set vs i v) (i + 1) pan ≡ named width lines vs i pan || (good v && eqs (panAt width lines i) pan)
+  named-next : (vs : List ℕ) (i v : ℕ) (pan : List ℕ) → i < length vs
+      → named width lines (set vs i v) (i + 1) pan ≡ named width lines vs i pan || (good v && eqs (panAt width lines i) pan)
   unfolding named holdsPan panAt
   named-next vs i v pan h =
       let xs : List (List ℕ) = chop width i lines in
@@ -81,22 +80,22 @@ module _ (width : ℕ) (lines : List ℕ) where
     pub flag-within : firstAt width lines n i < length flags
     flag-within = omega (arith, g .size, first-within width lines n i h)
 
+    abbrev pan : ℕ → List ℕ
+    pan = panAt width lines
+
+    abbrev at : ℕ → ℕ
+    at = firstAt width lines n
+
     -- v is the line's verdict, a the place of the first that has its PAN, and m the flag that stands there from now on
-    pub flagged-turn : i < length vs → (v a m : ℕ) → a ≡ firstAt width lines n i → bad m ≡ bad (getD flags a 0) || good v → Flagged width lines n (set vs i v) (i + 1) (set flags a m)
-    flagged-turn l v a m p q = record { size = length-set flags a m ∙ g .size; flag = λ j k. go j k (eqb (firstAt width lines n j) a) refl }
+    pub flagged-turn : i < length vs → (v a m : ℕ) → a ≡ firstAt width lines n i → bad m ≡ bad (getD flags a 0) || good v
+        → Flagged width lines n (set vs i v) (i + 1) (set flags a m)
+    flagged-turn l v a m p q = record { size = length-set flags a m ∙ g .size; flag = λ j k. go j k (eqs (pan i) (pan j)) refl }
       where
-        go : (j : ℕ) → j < n → (r : Bool) → eqb (firstAt width lines n j) a ≡ r
-            → bad (getD (set flags a m) (firstAt width lines n j) 0) ≡ named width lines (set vs i v) (i + 1) (panAt width lines j)
+        go : (j : ℕ) → j < n → (r : Bool) → eqs (pan i) (pan j) ≡ r → bad (getD (set flags a m) (at j) 0) ≡ named width lines (set vs i v) (i + 1) (pan j)
         go j k true e =
-            let s : firstAt width lines n j ≡ a = eqb-true (firstAt width lines n j) a e in
-            let t : panAt width lines i ≡ panAt width lines j = first-same width lines n i j h k (sym p ∙ sym s) in
+            let s : at j ≡ a = sym (p ∙ same-first width lines n i j (eqs-true (pan i) (pan j) e)) in
             let u : a < length flags = rw p flag-within in
-            rw (s, getD-set-same flags a m 0 u, named-next vs i v (panAt width lines j) l, eq-eqs (panAt width lines i) (panAt width lines j) t, and-true (good v), ← g .flag j k, s) q
+            rw (s, getD-set-same flags a m 0 u, named-next vs i v (pan j) l, e, and-true (good v), ← g .flag j k, s) q
         go j k false e =
-            let s : firstAt width lines n j ≡ a → ⊥ = eqb-false (firstAt width lines n j) a e in
-            let t : eqs (panAt width lines i) (panAt width lines j) ≡ false = other (eqs (panAt width lines i) (panAt width lines j)) refl (λ x. s (sym (p ∙ same-first width lines n i j (eqs-true _ _ x)))) in
-            rw (getD-set-other flags a (firstAt width lines n j) m 0 s, named-next vs i v (panAt width lines j) l, t, and-none (good v) false refl, g .flag j k) (sym (or-false _))
-          where
-            other : (b : Bool) → eqs (panAt width lines i) (panAt width lines j) ≡ b → (eqs (panAt width lines i) (panAt width lines j) ≡ true → ⊥) → b ≡ false
-            other true x y = absurd (y x)
-            other false x y = refl
+            let s : at j ≡ a → ⊥ = λ x. true≢false (sym (eq-eqs (pan i) (pan j) (first-same width lines n i j h k (sym p ∙ sym x))) ∙ e) in
+            rw (getD-set-other flags a (at j) m 0 s, named-next vs i v (pan j) l, e, and-none (good v) false refl, g .flag j k) (sym (or-false _))

@@ -5,5 +5,6 @@ use Prim.Native.Nat.{ℕ}
 use Rattle.theory.specs.laws.Outcome.{one-outcome}
 use Rattle.judging.specs.Promises.{Judge}
 
-pub judge-one : (h rows register vs us found kept : List ℕ) → Judge h rows register vs found → Judge h rows register us kept → (vs ≡ us) × (found ≡ kept)
-judge-one h rows register vs us found kept j k = (one-outcome (j .0) (k .0), one-outcome (j .1) (k .1))
+pub judge-one : (h rows register vs vs′ found found′ : List ℕ)
+    → Judge h rows register vs found → Judge h rows register vs′ found′ → (vs ≡ vs′) × (found ≡ found′)
+judge-one h rows register vs vs′ found found′ j k = (one-outcome (j .0) (k .0), one-outcome (j .1) (k .1))
