@@ -5,7 +5,7 @@ ghost use Prim.Native.Nat.{_≤_};
 ghost use lib.ListN.{length};
 ghost use Rattle.offsets.specs.Offset.{receptionHolds};
 ghost use Rattle.offsets.specs.Ahead.{offsetOf};
-ghost use Rattle.stops.specs.laws.Clear.{Clear};
+ghost use Rattle.stops.specs.Clear.{Clear};
 ghost use Rattle.hgv.specs.Layout.{linesIn};
 ghost use Rattle.slots.specs.Slots.{slotsIn};
 ghost use Rattle.importer.specs.Handed.{handed};

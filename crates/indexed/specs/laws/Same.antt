@@ -4,7 +4,7 @@ use mathlib.Core.Bool.{true}
 use mathlib.Core.List.{List, [], _∷_, _++_}
 use Prim.Native.Nat.{ℕ, _≤_, _<_}
 use borrow.Author.Tests.{le-ltb, lt-ltb}
-use Rattle.theory.specs.First.{first, choose}
+use Rattle.theory.specs.First.{_if_, first, choose}
 use Rattle.theory.specs.laws.First.{otherwise, numbered, first-append}
 use Rattle.theory.specs.laws.Stopped.{at-stop, by-first}
 use Rattle.slots.specs.Slots.{slotsIn}
@@ -34,10 +34,14 @@ module _ (k : ℕ) (f : Handed) (register : List ℕ) where
 
   -- ---- too short
 
+  calls : numbered (callStops (f .mode) (timed f) register (f .rows)) ≡ true
+  unfolding callStops numbered
+  calls = refl
+
   -- 36 decides where none of 21 to 24 does
   pub number-short : k < slotsIn register → indexedNumber k f register ≡ otherwise (first (callStops (f .mode) (timed f) register (f .rows))) 36
-  unfolding indexedNumber indexedStops indexedFormStops callStops indexShort first choose otherwise
-  number-short l = rw (lt-ltb k (slotsIn register) l) ?
+  unfolding indexedNumber indexedStops indexedFormStops callStops indexShort first choose
+  number-short l = rw (lt-ltb k (slotsIn register) l) (first-append (callStops (f .mode) (timed f) register (f .rows)) ((36 if true) ∷ []) calls)
 
   -- ---- a stop of form
 
