@@ -48,17 +48,13 @@ fn both_ways() {
 fn refusals() {
     let (rows, full) = (sample::row(), IMPORT.replace("incremental", "full"));
     let held = sample::slots((0..4).map(sample::line));
-    let cases: [(&[u8], &[u8], Vec<u8>, &str, i32); 6] = [
-        (b"1", &rows, sample::hgv(2), IMPORT, 23),
-        (&[0; SLOT], b"1", sample::hgv(2), IMPORT, 24),
-        (&[0; SLOT], &rows, Vec::new(), IMPORT, 25),
-        (&[0; SLOT], &rows, sample::hgv(2), IMPORT, 33),
-        (&held, &rows, sample::hgv(1), &full, 35),
-        (&held, &rows, sample::hgv(4), &full, 0),
-    ];
-    for (register, rows, hgv, line, status) in cases {
-        assert_eq!(alike(register, rows, &hgv, line), status, "{line}");
-    }
+    let free = [0; SLOT];
+    assert_eq!(alike(b"1", &rows, &sample::hgv(2), IMPORT), 23);
+    assert_eq!(alike(&free, b"1", &sample::hgv(2), IMPORT), 24);
+    assert_eq!(alike(&free, &rows, b"", IMPORT), 25);
+    assert_eq!(alike(&free, &rows, &sample::hgv(2), IMPORT), 33);
+    assert_eq!(alike(&held, &rows, &sample::hgv(1), &full), 35);
+    assert_eq!(alike(&held, &rows, &sample::hgv(4), &full), 0);
 }
 
 /// Inputs of the generator, accepted and refused ones.
