@@ -79,11 +79,11 @@ const PROVED: Engine = Engine {
 };
 
 thread_local! {
-    /// As the import before has left it, of whatever register that was.
+    /// As the import before has left it, into whatever register that was.
     static INDEX: RefCell<Vec<u16>> = const { RefCell::new(Vec::new()) };
 }
 
-/// The indexed import under the form of the plain one: it is lent as many numbers as there are slots, and none is its own.
+/// The indexed import under the form of the plain one: it is lent as many numbers as there are slots, as they were left.
 fn import_by_index(
     mode: u64,
     reception: &[u8],
