@@ -7,6 +7,7 @@ pub mod file;
 pub mod full;
 pub mod giving;
 pub mod giving_faults;
+pub mod index;
 pub mod large;
 pub mod line;
 pub mod offset;
@@ -19,6 +20,7 @@ pub mod world;
 
 pub use case::{case, Case};
 pub use giving::{giving, large_giving, Giving};
+pub use index::{index, index_of, Index};
 pub use large::large;
 pub use pair::{pair, Pair};
 pub use question::{question, Question};

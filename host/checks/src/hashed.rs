@@ -3,7 +3,7 @@
 use std::collections::{HashMap, HashSet};
 use std::ops::Range;
 
-use crate::plain::import::{finish_import, import_stop_to_32, import_stopped, shown};
+use crate::plain::import::{finish_import, import_stop_to_32, import_stopped, is_36, shown, stop_with_36};
 use crate::plain::lookup::{answer_by_plate, plate_stop};
 use crate::plain::provider::{
     count_stopped, finish_read_back, finish_update, read_back_stop_to_32, reception_told, stamp_told, update_stop_to_32,
@@ -73,6 +73,25 @@ pub fn import(
     let stamp = Stamp { list: hgv::list_sequence(hgv), reception };
     let after = after(mode, register, sender, &taken, &stamp, after_mode_1);
     finish_import(mode, &shown(reception, offset), register, hgv, hgc, &verdicts, &after)
+}
+
+/// The maps are its own index, and the one that is lent stays as it was.
+#[expect(clippy::too_many_arguments, reason = "they are the definition's")]
+pub fn import_indexed(
+    mode: u64,
+    reception: &[u8],
+    offset: i64,
+    register: &mut [u8],
+    rows: &[u8],
+    hgv: &[u8],
+    hgc: &mut [u8],
+    index: &mut [u16],
+) -> Imported {
+    if is_36(register, index) {
+        let without = import_stop_to_32(mode, reception, offset, register, rows, hgv, in_order);
+        return import_stopped(stop_with_36(without));
+    }
+    import(mode, reception, offset, register, rows, hgv, hgc)
 }
 
 pub fn by_pan(register: &[u8], pan: &[u8]) -> (u64, Range<usize>) {

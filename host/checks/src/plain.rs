@@ -15,7 +15,7 @@ pub mod verdict;
 pub mod words;
 pub mod writer;
 
-pub use import::{import, rules_broken};
+pub use import::{import, import_indexed, rules_broken};
 pub use lookup::{by_pan, by_plate};
 pub use pairing::{Clause, CLAUSES};
 pub use provider::{clauses_of_52, read_back, update};

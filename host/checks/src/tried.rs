@@ -1,8 +1,9 @@
 //! Whatever `lists` has, tried in full: every value of a field as a line of a file and as a record of a register, every date
-//! and every time. An implementation is handed over as the function that is asked.
+//! and every time; and an index of every length. An implementation is handed over as the function that is asked.
 
 pub mod clocks;
 pub mod fields;
+pub mod indexes;
 pub mod lookups;
 pub mod pans;
 pub mod plates;

@@ -12,6 +12,8 @@ mod clocks;
 mod common;
 #[path = "definition/exhaustive.rs"]
 mod exhaustive;
+#[path = "definition/indexed.rs"]
+mod indexed;
 #[path = "definition/limits.rs"]
 mod limits;
 #[path = "definition/lines.rs"]

@@ -20,6 +20,8 @@ mod explained;
 mod faults;
 #[path = "command/hooked.rs"]
 mod hooked;
+#[path = "command/indexed.rs"]
+mod indexed;
 #[path = "command/issuers.rs"]
 mod issuers;
 #[path = "command/killed.rs"]

@@ -9,6 +9,9 @@
 //! Every answer is the proved library's and nothing here judges a byte. What is refused is refused by its [`Number`] in the
 //! definition, and a refusal leaves every block as it was.
 //!
+//! An import finds equal PANs by an index of slot numbers, which [`Register::import`] lends by itself;
+//! [`Register::import_plain`] searches without one, and answers the same.
+//!
 //! [`raw`] holds the same functions on plain numbers and lent blocks, and says what the C boundary leaves unchecked.
 //!
 //! ```

@@ -18,6 +18,7 @@ numbered! {
         33 Slots "more used slots would follow than there are"
         34 HgcBuffer "the buffer for the HGC is too short"
         35 ThinList "twice the lines taken are fewer than the records held for the sender"
+        36 Index "the index has fewer numbers than the register has slots"
         40 Key "the key breaks its form"
         41 NoRecord "no record fits"
         42 SeveralRecords "more than one active record fits"

@@ -5,15 +5,20 @@
 //! What a call does is proved for every slice of every length. What no proof covers is the boundary itself:
 //! - a declaration here is believed to be that of the export: a test compares all of them with the exports' source (name,
 //!   parameters in their order, widths, result), and each call first asks the linked libraries which form of it they have;
-//! - a slice crosses as a pointer and a length of 64 bits, a `&mut u64` as a pointer, and the library believes them;
+//! - a slice crosses as a pointer and a length of 64 bits, in elements, a `&mut u64` as a pointer, and the library believes
+//!   them;
 //! - blocks that it may write must overlap no other block;
 //! - a call uses the caller's stack and does not ask whether it is there: less than 128 KiB for the largest
-//!   blocks.
+//!   blocks. `host/stack` prints what each call needs.
 //!
 //! Here each pair comes from one slice and no two mutable borrows are alike, so the second and third hold for every safe
 //! caller. The library keeps nothing between calls.
+//!
+//! What each lent block holds after a call is said, byte for byte and at a refusal too, but for one: the index of
+//! [`import_indexed`], of whose numbers nothing is said.
 
 mod answers;
+mod indexed;
 mod provider;
 mod revision;
 mod sweep;
@@ -23,6 +28,7 @@ mod writer;
 use std::ops::Range;
 
 pub use answers::{Counted, Imported, Swept, Timed, Written};
+pub use indexed::import_indexed;
 pub use provider::{read_back, update};
 pub use revision::{must_be_declared, revision, REVISION};
 pub use sweep::sweep;
@@ -73,7 +79,7 @@ extern "C" {
 }
 
 /// Imports an HGV into the register, and writes its HGC into the buffer. The reception is UTC; the HGC shows it so many minutes
-/// later.
+/// later. It searches plainly, over everything for every line.
 pub fn import(
     mode: u64,
     reception: &[u8],

@@ -68,12 +68,20 @@ impl Register {
 
     /// Imports an HGV: the counts, and the HGC for its sender. Register and HGC belong together, so keep both or neither.
     pub fn import(&mut self, given: &Import) -> Result<(Counts, Vec<u8>), Number> {
-        // An HGC is never twice as long as its HGV.
-        let mut hgc = vec![0; 2 * given.hgv.len()];
+        // A number for each slot, so that none is short (36). It is proved that any numbers do: zeros are as good as what a call
+        // before has left, and nothing is read from them afterwards.
+        let mut index = vec![0; self.0.len() / SLOT];
         let Import { mode, reception, offset, rows, hgv } = *given;
-        let done = raw::import(mode.number(), reception, offset.minutes(), &mut self.0, rows, hgv, &mut hgc);
-        hgc.truncate(done.length as usize);
-        unless_refused(done.number, (Counts { taken: done.taken, rejected: done.rejected }, hgc))
+        let (mode, offset, register) = (mode.number(), offset.minutes(), &mut self.0);
+        confirmed(hgv, |hgc| raw::import_indexed(mode, reception, offset, register, rows, hgv, hgc, &mut index))
+    }
+
+    /// The same, with a search over everything for every line: it is proved that both answer alike and leave the same register
+    /// and the same HGC. For who compares the two; on large files it takes many times as long.
+    pub fn import_plain(&mut self, given: &Import) -> Result<(Counts, Vec<u8>), Number> {
+        let Import { mode, reception, offset, rows, hgv } = *given;
+        let (mode, offset, register) = (mode.number(), offset.minutes(), &mut self.0);
+        confirmed(hgv, |hgc| raw::import(mode, reception, offset, register, rows, hgv, hgc))
     }
 
     /// The slot itself that holds the PAN: 19 bytes, digits and then blanks.
@@ -115,6 +123,14 @@ impl Register {
     pub fn records(&self) -> impl Iterator<Item = Slot<'_>> {
         self.slots().take_while(|slot| slot.bytes()[0] != 0)
     }
+}
+
+/// The counts and the HGC of an import, which is lent room enough for it: an HGC is never twice as long as its HGV.
+fn confirmed(hgv: &[u8], import: impl FnOnce(&mut [u8]) -> raw::Imported) -> Result<(Counts, Vec<u8>), Number> {
+    let mut hgc = vec![0; 2 * hgv.len()];
+    let done = import(&mut hgc);
+    hgc.truncate(done.length as usize);
+    unless_refused(done.number, (Counts { taken: done.taken, rejected: done.rejected }, hgc))
 }
 
 /// Whether issuer rows are in form, 24 where they are not: an import judges them before it looks at the HGV, and no HGV is

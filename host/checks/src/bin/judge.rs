@@ -3,7 +3,7 @@
 //! are asked first.
 
 use graftspindle_checks::plain::register::SLOT;
-use graftspindle_checks::tried::{clocks, lookups, pans, seconds, stamps, sweeps, times, trials, Trial};
+use graftspindle_checks::tried::{clocks, indexes, lookups, pans, seconds, stamps, sweeps, times, trials, Trial};
 use graftspindle_checks::vectors::{first_difference, PROGRAMS};
 use graftspindle_checks::{plain, sample};
 use std::panic::{catch_unwind, set_hook, AssertUnwindSafe};
@@ -46,7 +46,8 @@ fn by_lists() -> Option<String> {
     let of_lookup = || lookups::all(plain::by_pan, by_plate).or_else(|| times::all_times(is_real));
     let of_time = || seconds::all(plain::seconds).or_else(|| clocks::all(plain::import, plain::update));
     let of_register = || of_lookup().or_else(|| sweeps::all(plain::sweep));
-    trials().find_map(of_trial).or_else(of_record).or_else(of_register).or_else(of_time)
+    let of_index = || indexes::all(plain::import, plain::import_indexed);
+    trials().find_map(of_trial).or_else(of_record).or_else(of_register).or_else(of_index).or_else(of_time)
 }
 
 pub fn main() {

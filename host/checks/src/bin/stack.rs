@@ -9,7 +9,7 @@ use graftspindle_checks::plain::register::SLOT;
 use graftspindle_checks::sample;
 
 const LINES: usize = 8192;
-const CALLS: [&str; 6] = ["import", "lookup", "read back", "update", "sweep", "write"];
+const CALLS: [&str; 7] = ["import", "indexed import", "lookup", "read back", "update", "sweep", "write"];
 
 /// An hour ahead of UTC, so that times are reckoned with too.
 const OFFSET: i64 = 60;
@@ -39,6 +39,14 @@ fn prepared(call: &str) -> Call {
         "import" => Box::new(move || {
             raw::import(2, sample::RECEPTION, OFFSET, &mut register, &rows, &hgv, &mut hgc).taken == taken
         }),
+        "indexed import" => {
+            let mut index = vec![u16::MAX; LINES];
+            Box::new(move || {
+                let (register, hgc, index) = (&mut register, &mut hgc, &mut index);
+                let done = raw::import_indexed(2, sample::RECEPTION, OFFSET, register, &rows, &hgv, hgc, index);
+                done.taken == taken
+            })
+        }
         "lookup" => {
             let key = format!("{:<19}", sample::pan(0));
             Box::new(move || raw::by_pan(&register, key.as_bytes()).0 == 0)

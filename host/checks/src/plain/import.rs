@@ -1,4 +1,4 @@
-//! The import: its stops, and what it writes.
+//! The import: its stops, and what it writes; and the same with an index that is lent.
 
 use super::register::{self, after, in_order, InOrder, Stamp};
 use super::{clock, confirmation, hgv, line, rows, verdict};
@@ -74,6 +74,41 @@ pub fn import(
     let stamp = Stamp { list: hgv::list_sequence(hgv), reception };
     let after = after(mode, register, sender, &taken, &stamp, register::after_mode_1);
     finish_import(mode, &shown(reception, offset), register, hgv, hgc, &verdicts, &after)
+}
+
+/// 36: "index shorter than the slots". All slots count, used and free.
+pub fn is_36(register: &[u8], index: &[u16]) -> bool {
+    index.len() < register.len() / register::SLOT
+}
+
+/// "After 24 and before 25": what an import is stopped with whose index is too short, by its stop without one, or 0.
+pub fn stop_with_36(stop: u64) -> u64 {
+    match stop {
+        21..=24 => stop,
+        _ => 36,
+    }
+}
+
+/// "Let the caller lend an index of 16-bit slot numbers, in any state, and use it. After the call, stops included, its bytes mean
+/// nothing." Nothing is found by it here: each of its numbers is turned into another, which nobody may notice.
+#[expect(clippy::too_many_arguments, reason = "they are the definition's")]
+pub fn import_indexed(
+    mode: u64,
+    reception: &[u8],
+    offset: i64,
+    register: &mut [u8],
+    rows: &[u8],
+    hgv: &[u8],
+    hgc: &mut [u8],
+    index: &mut [u16],
+) -> Imported {
+    let is_short = is_36(register, index);
+    index.iter_mut().for_each(|number| *number = !*number);
+    if is_short {
+        let without = import_stop_to_32(mode, reception, offset, register, rows, hgv, in_order);
+        return import_stopped(stop_with_36(without));
+    }
+    import(mode, reception, offset, register, rows, hgv, hgc)
 }
 
 /// The reception as the HGC shows it; 22 lets none pass that cannot be shown.

@@ -1,6 +1,8 @@
 //! The vectors on registers, lookups, sweeps, imports and the provider's side; of these the import: mode, reception, rows, register
 //! and HGV by their letters, the length of the HGC's buffer, the HGV's where it is not its own, and a place of the HGV changed.
 //! `local` and `utc` have the offset in front of an import and of an update: a sign, four digits of minutes, and a blank.
+//! `indexed` has in front of a `local` one the index that is lent: four digits of its length, a blank, five digits of the number
+//! that stands in each of its places, and a blank.
 
 use super::answer::{kept, slots};
 use super::blocks::{change, field, letters, number, rest, sent};
@@ -19,14 +21,23 @@ fn is_kept(block: &[u8]) -> bool {
     block.iter().all(|&b| b == UNWRITTEN)
 }
 
-fn of_import(samples: &Samples, offset: i64, f: &[u8]) -> Option<Answer> {
+/// The longest index that a program has.
+const INDEX: usize = 16;
+
+/// An import, by an index where one is lent.
+fn of_import(samples: &Samples, index: Option<Vec<u16>>, offset: i64, f: &[u8]) -> Option<Answer> {
     let hgv = sent(samples.hgv(field(f, 25, 29)), field(f, 36, 39), |hgv| change(hgv, rest(f, 41)));
     let before = samples.slots(field(f, 20, 23));
     let rows = samples.laid(24, letters(field(f, 18, 18), 1));
     let mut register = before.clone();
     let mut hgc = vec![UNWRITTEN; number(field(f, 31, 34)).min(704)];
-    let mode = number(field(f, 1, 1)) as u64;
-    let done = plain::import(mode, field(f, 3, 16), offset, &mut register, &rows, &hgv, &mut hgc);
+    let (mode, reception) = (number(field(f, 1, 1)) as u64, field(f, 3, 16));
+    let done = match index {
+        None => plain::import(mode, reception, offset, &mut register, &rows, &hgv, &mut hgc),
+        Some(mut index) => {
+            plain::import_indexed(mode, reception, offset, &mut register, &rows, &hgv, &mut hgc, &mut index)
+        }
+    };
     let mut behind = format!("{} {}", counted(done.taken, done.rejected), done.length).into_bytes();
     let length = done.length as usize;
     if length == 0 {
@@ -51,10 +62,21 @@ fn offset(f: &[u8]) -> i64 {
     }
 }
 
+/// The index that stands in front.
+fn index(f: &[u8]) -> Vec<u16> {
+    let state = number(field(f, 6, 10)).min(usize::from(u16::MAX)) as u16;
+    vec![state; number(field(f, 1, 4)).min(INDEX)]
+}
+
+fn of_local(samples: &Samples, index: Option<Vec<u16>>, f: &[u8]) -> Option<Answer> {
+    of_import(samples, index, offset(f), rest(f, 7))
+}
+
 pub fn answer(samples: &Samples, tag: &[u8], f: &[u8]) -> Option<Answer> {
     match tag {
-        b"import  " => of_import(samples, 0, f),
-        b"local   " => of_import(samples, offset(f), rest(f, 7)),
+        b"import  " => of_import(samples, None, 0, f),
+        b"local   " => of_local(samples, None, f),
+        b"indexed " => of_local(samples, Some(index(f)), rest(f, 12)),
         b"many    " => many::of_lines(samples, f),
         b"slots   " => many::of_slots(f),
         b"readback" => pairs::of_read(samples, f),

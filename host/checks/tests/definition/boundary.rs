@@ -41,6 +41,36 @@ fn a_stop_writes_nothing() {
     }
 }
 
+/// An index beside whose ends nothing is written: its numbers, with one more on each side.
+fn import_by_index(numbers: usize, register: &mut [u8], hgc: &mut [u8]) -> raw::Imported {
+    let mut index = vec![0xBEEF; numbers + 2];
+    let (rows, hgv, lent) = (sample::row(), sample::hgv(3), &mut index[1..numbers + 1]);
+    let done = raw::import_indexed(1, sample::RECEPTION, OFFSET, register, &rows, &hgv, hgc, lent);
+    assert_eq!((index[0], index[numbers + 1]), (0xBEEF, 0xBEEF));
+    done
+}
+
+/// A length counts numbers of 16 bits, not bytes: three for four slots are too few, though they have six bytes.
+#[test]
+fn import_indexed() {
+    let (mut other, mut told) = (vec![0; 4 * SLOT], vec![7; 300]);
+    let (rows, hgv) = (sample::row(), sample::hgv(3));
+    let plain =
+        plain::import_indexed(1, sample::RECEPTION, OFFSET, &mut other, &rows, &hgv, &mut told, &mut [9, 9, 9, 9]);
+    assert_eq!((plain.number, plain.taken, plain.rejected, plain.length), (0, 3, 0, 174));
+    for numbers in [4, 5, 100, 70_000] {
+        let (mut register, mut hgc) = (vec![0; 4 * SLOT], vec![7; 300]);
+        assert_eq!(import_by_index(numbers, &mut register, &mut hgc), plain);
+        assert!(register == other && hgc == told && register == imported() && &hgc[32..46] == LOCAL);
+    }
+    for numbers in [0, 1, 2, 3] {
+        let (mut register, mut hgc) = (vec![0; 4 * SLOT], vec![7; 300]);
+        let done = import_by_index(numbers, &mut register, &mut hgc);
+        assert_eq!((done.number, done.taken, done.rejected, done.length), (36, 0, 0, 0));
+        assert!(register == vec![0; 4 * SLOT] && hgc == vec![7; 300]);
+    }
+}
+
 #[test]
 fn by_pan() {
     let register = imported();
@@ -168,7 +198,25 @@ fn small_stack() {
     assert_eq!(thread.expect("a thread").join().expect("it ends"), (8192, 8192, 8192, 8192, 0, true));
 }
 
-/// The largest lists on the same stack: one that is written, and one whose last PAN is its first.
+/// What the indexed import is given, as `host/stack` says that it needs.
+const STACK_BY_INDEX: usize = 128 * 1024;
+
+/// The largest file by an index, into a free register and into a full one, in both modes.
+#[test]
+fn small_stack_by_index() {
+    let calls = || {
+        let (hgv, rows, mut index) = (sample::hgv(8192), sample::row(), vec![u16::MAX; 8192]);
+        let (mut register, mut hgc) = (vec![0; 8192 * SLOT], vec![0; 174]);
+        let mut import = |mode| {
+            raw::import_indexed(mode, sample::RECEPTION, OFFSET, &mut register, &rows, &hgv, &mut hgc, &mut index).taken
+        };
+        [import(1), import(1), import(2)]
+    };
+    let thread = std::thread::Builder::new().stack_size(STACK_BY_INDEX).spawn(calls);
+    assert_eq!(thread.expect("a thread").join().expect("it ends"), [8192; 3]);
+}
+
+/// The largest lists on a stack of 128 KiB: one that is written, and one whose last PAN is its first.
 #[test]
 fn small_stack_for_writing() {
     let calls = || {

@@ -1,7 +1,7 @@
 //! The shorthand of the cases.
 
 use graftspindle::raw::{Counted, Imported, List, Swept, Written};
-pub use graftspindle_checks::engines::{Engine, ENGINES};
+pub use graftspindle_checks::engines::{indexed, Engine, ENGINES};
 use graftspindle_checks::generate::{Case, Import};
 use graftspindle_checks::plain::line::{breaks_l10, record_rules_hold};
 use graftspindle_checks::plain::register::SLOT;
@@ -141,12 +141,32 @@ pub fn run(
 /// Runs an import into a buffer of EE and checks what every import owes its lent blocks.
 pub fn run_given(engine: &Engine, register: &[u8], given: &Given) -> Outcome {
     let Given { mode, reception, offset, rows, hgv, room } = *given;
+    let import =
+        |after: &mut [u8], buffer: &mut [u8]| (engine.import)(mode, reception, offset, after, rows, hgv, buffer);
+    owed(engine.name, register, room, import)
+}
+
+/// The same by an index. Of its numbers nothing is owed; those around it stay.
+pub fn run_indexed(engine: &Engine, register: &[u8], given: &Given, index: &mut [u16]) -> Outcome {
+    const AROUND: u16 = 0xBEEF;
+    let Given { mode, reception, offset, rows, hgv, room } = *given;
+    let mut lent = [&[AROUND], &index[..], &[AROUND]].concat();
+    let end = lent.len() - 1;
+    let outcome = owed(engine.name, register, room, |after, buffer| {
+        (engine.import_indexed)(mode, reception, offset, after, rows, hgv, buffer, &mut lent[1..end])
+    });
+    assert_eq!((lent[0], lent[end]), (AROUND, AROUND), "{}: beside the index", engine.name);
+    index.copy_from_slice(&lent[1..end]);
+    outcome
+}
+
+fn owed(name: &str, register: &[u8], room: usize, import: impl FnOnce(&mut [u8], &mut [u8]) -> Imported) -> Outcome {
     let (mut after, mut buffer) = (register.to_vec(), vec![0xEE; room]);
-    let answer = (engine.import)(mode, reception, offset, &mut after, rows, hgv, &mut buffer);
+    let answer = import(&mut after, &mut buffer);
     let length = answer.length as usize;
-    assert!(buffer[length..].iter().all(|&b| b == 0xEE), "{}: bytes beyond the HGC", engine.name);
+    assert!(buffer[length..].iter().all(|&b| b == 0xEE), "{name}: bytes beyond the HGC");
     if answer.number != 0 {
-        assert_eq!(after, register, "{}: a stop writes nothing", engine.name);
+        assert_eq!(after, register, "{name}: a stop writes nothing");
         assert_eq!((answer.taken, answer.rejected, answer.length), (0, 0, 0));
     } else {
         assert_eq!(answer.length, 174 + 130 * answer.rejected);
@@ -200,12 +220,27 @@ pub fn assert_verdicts(lines: &[Vec<u8>], expected: &[u8]) {
 
 /// What all implementations answer: the same, in every byte.
 pub fn of_all<A: PartialEq + Debug>(ask: impl Fn(&Engine) -> A) -> A {
-    let first = ask(&ENGINES[0]);
-    for engine in &ENGINES[1..] {
+    of_these(ENGINES.iter(), ask)
+}
+
+/// The same of those that differ in their indexed imports.
+pub fn of_indexed<A: PartialEq + Debug>(ask: impl Fn(&Engine) -> A) -> A {
+    of_these(indexed(), ask)
+}
+
+fn of_these<A: PartialEq + Debug>(mut engines: impl Iterator<Item = &'static Engine>, ask: impl Fn(&Engine) -> A) -> A {
+    let one = engines.next().expect("an implementation");
+    let first = ask(one);
+    for engine in engines {
         let answer = ask(engine);
-        assert!(answer == first, "{}: {answer:?}\n{}: {first:?}", engine.name, ENGINES[0].name);
+        assert!(answer == first, "{}: {answer:?}\n{}: {first:?}", engine.name, one.name);
     }
     first
+}
+
+/// The implementation of this name.
+pub fn engine(name: &str) -> &'static Engine {
+    ENGINES.iter().find(|engine| engine.name == name).expect("an implementation of that name")
 }
 
 pub type Counts<K> = BTreeMap<K, u64>;

@@ -1,6 +1,7 @@
 //! For each two stops of an order, an input where both apply: the first answers.
 
 use crate::common::*;
+use graftspindle_checks::plain::register::SLOT;
 
 struct Input {
     mode: u64,
@@ -11,6 +12,8 @@ struct Input {
     hgv: Vec<u8>,
     hgc: Vec<u8>,
     room: usize,
+    /// By how many numbers the index is shorter than the slots.
+    lacking: usize,
 }
 
 /// One line, taken into one slot; buffer or verdict block just long enough.
@@ -24,6 +27,7 @@ fn right(room: usize) -> Input {
         hgv: hgv(&[x()]),
         hgc: hgc(1, &[]),
         room,
+        lacking: 0,
     }
 }
 
@@ -46,9 +50,10 @@ fn apply(number: u64, input: &mut Input) {
         30 => input.hgv[79] = b'2',
         31 => input.hgv[256] = b'3',
         32 => input.hgv[128] = b'2',
-        33 => input.register.clear(),
+        33 => input.register = slot(y()),
         34 | 53 => input.room -= 1,
         35 => (input.mode, input.register) = (2, three_held()),
+        36 => input.lacking = 1,
         51 => input.register = slot(with(&y(), 2, b"900124")),
         52 => input.hgc.push(b'0'),
         _ => unreachable!(),
@@ -103,6 +108,20 @@ fn import_order() {
             let Input { mode, reception, offset, register, rows, hgv, room, .. } = &i;
             let given = Given { mode: *mode, reception, offset: *offset, rows, hgv, room: *room };
             run_given(engine, register, &given).answer.number
+        });
+    }
+}
+
+/// The same with 36 at its place, which no other import has.
+#[test]
+fn indexed_import_order() {
+    let order = [21, 22, 23, 24, 36, 25, 26, 27, 28, 29, 30, 31, 32, 35, 33, 34];
+    for (engine, apply) in indexed().flat_map(|engine| WAYS.map(|apply| (engine, apply))) {
+        assert_order(&order, 174, apply, |i| {
+            let Input { mode, reception, offset, register, rows, hgv, room, .. } = &i;
+            let given = Given { mode: *mode, reception, offset: *offset, rows, hgv, room: *room };
+            let mut index = vec![0; register.len() / SLOT - i.lacking];
+            run_indexed(engine, register, &given, &mut index).answer.number
         });
     }
 }

@@ -9,7 +9,7 @@ use graftspindle_checks::generate::{sequence, start, Event, Import};
 use graftspindle_checks::plain::register::SLOT;
 use std::collections::{BTreeMap, BTreeSet};
 
-const SEQUENCES: u64 = 2_000;
+pub const SEQUENCES: u64 = 2_000;
 
 fn actor_of(slot: &[u8]) -> &[u8] {
     &slot[1..7]
@@ -20,7 +20,7 @@ fn pan_of(slot: &[u8]) -> &[u8] {
 }
 
 /// Each provider's copy, by his actor.
-type Copies = BTreeMap<Vec<u8>, Vec<u8>>;
+pub type Copies = BTreeMap<Vec<u8>, Vec<u8>>;
 
 /// Of all who send something and of all for whom something is held: each begins with our records of him.
 fn copies(register: &[u8], events: &[Event]) -> Copies {
@@ -51,13 +51,17 @@ fn sweep_all(engine: &Engine, time: &[u8], answer: Swept, copies: &mut Copies) {
     assert_eq!(removed, answer.removed, "{}", engine.name);
 }
 
-/// A provider who holds our records of him, those of before too, and applies each confirmation that he gets and each sweep, all
-/// at their places, holds them again.
 fn follow(engine: &Engine, seed: u64) -> (Vec<Step>, Copies) {
+    follow_by(engine, seed, |register, event| Step::of(engine, register, event))
+}
+
+/// A provider who holds our records of him, those of before too, and applies each confirmation that he gets and each sweep, all
+/// at their places, holds them again. What we do at each event is handed over.
+pub fn follow_by(engine: &Engine, seed: u64, mut step: impl FnMut(&[u8], &Event) -> Step) -> (Vec<Step>, Copies) {
     let (mut register, events) = (start(seed), sequence(seed));
     let (mut steps, mut copies) = (Vec::new(), copies(&register, &events));
     for event in &events {
-        let step = Step::of(engine, &register, event);
+        let step = step(&register, event);
         match (event, &step) {
             (Event::Import(import), Step::Imported(outcome)) if step.number() == 0 => {
                 apply(engine, import, outcome, copies.get_mut(import.sender()).expect("a copy for each sender"));
@@ -240,7 +244,7 @@ fn late(engine: &Engine, copy: &[u8], time: &[u8], import: &Import, outcome: &Ou
 fn sweeps_applied_late() {
     let mut told = Counts::new();
     for seed in 0..2 * SEQUENCES {
-        let (events, (steps, copies)) = (sequence(seed), follow(&ENGINES[1], seed));
+        let (events, (steps, copies)) = (sequence(seed), follow(engine("hashed"), seed));
         let befores: Vec<Vec<u8>> =
             [start(seed)].into_iter().chain(steps.iter().map(|s| s.register().to_vec())).collect();
         for (at, event) in events.iter().enumerate() {

@@ -49,6 +49,39 @@ fn offsets_in_front() {
     }
 }
 
+/// With an index in front that is long enough an import is answered as without; with one that is not, by 36 unless it is one of 21
+/// to 24; and the lengths and numbers that are read.
+#[test]
+fn indexes_in_front() {
+    let ((stdin, _), (_, ask)) = (files("cases_imports"), PROGRAMS[1]);
+    let (mut samples, mut tried, mut refused) = (Samples::none(), 0, 0);
+    for vector in stdin.split(|&b| b == b'\n') {
+        let answer = written(ask, &mut samples, vector)[vector.len()..].to_vec();
+        let Some(given) = vector.strip_prefix(b"import   ") else { continue };
+        let told = |samples: &mut Samples, index: &str| {
+            let other = [b"indexed  ", index.as_bytes(), b" +0000 ", given].concat();
+            written(ask, samples, &other)[other.len()..].to_vec()
+        };
+        for index in ["0005 00000", "0016 65535", "9999 99999", "0007 00003"] {
+            assert_eq!(told(&mut samples, index), answer, "{}", vector.escape_ascii());
+            tried += 1;
+        }
+        let none = told(&mut samples, "0000 00000");
+        if none != answer {
+            assert_eq!(none, b" -> 36 0 0 0 kept", "{}", vector.escape_ascii());
+            refused += 1;
+        }
+    }
+    assert!(tried >= 600 && refused >= 100, "{tried} vectors, {refused} of them 36 without an index");
+    for (register, ranges) in
+        [("----", "0000-9999: 0"), ("F---", "0000: 36, 0001-9999: 0"), ("FFFF", "0000-0003: 36, 0004-9999: 0")]
+    {
+        let vector = format!("each     indexed  #### 00000 +0000 1 20250310050000 r {register} 0---- 0174 0000");
+        let told = written(ask, &mut samples, vector.as_bytes());
+        assert_eq!(told, format!("{vector} -> {ranges}").into_bytes());
+    }
+}
+
 #[test]
 fn seconds_of_vectors() {
     let (_, ask) = PROGRAMS[0];

@@ -42,6 +42,7 @@ fn crossing((name, kind): &Parameter) -> Vec<Parameter> {
         "&mut u64" => &[("", "*mut u64")],
         "&[u8]" => &[("", "*const u8"), ("_length", "usize")],
         "&mut [u8]" => &[("", "*mut u8"), ("_length", "usize")],
+        "&mut [u16]" => &[("", "*mut u16"), ("_length", "usize")],
         other => panic!("{name}: it is not said how {other} crosses"),
     };
     parts.iter().map(|(ending, kind)| (format!("{name}{ending}"), kind.to_string())).collect()
@@ -95,14 +96,14 @@ fn each_declaration_is_its_export() {
     for (name, export) in &exports {
         assert_eq!(&declarations[name], export, "{name}: declared in Rust, and exported by the crates");
     }
-    assert!(exports.len() >= 9, "{} exports", exports.len());
+    assert!(exports.len() >= 10, "{} exports", exports.len());
 }
 
 /// That the comparison tells apart: each of these changes of a declaration is another function.
 #[test]
 fn a_changed_declaration_is_told_apart() {
-    let export = "#[no_mangle]\npub extern \"C\" fn f(\n    mode: u64,\n    offset: i64,\n    a: &[u8],\n    b: &mut [u8],\n    n: &mut u64,\n) -> u64\n    ensures { λ r. r }\n{";
-    let right = "extern \"C\" { fn f(mode: u64, offset: i64, a: *const u8, a_length: usize, b: *mut u8, b_length: usize, n: *mut u64) -> u64; }";
+    let export = "#[no_mangle]\npub extern \"C\" fn f(\n    mode: u64,\n    offset: i64,\n    a: &[u8],\n    b: &mut [u8],\n    c: &mut [u16],\n    n: &mut u64,\n) -> u64\n    ensures { λ r. r }\n{";
+    let right = "extern \"C\" { fn f(mode: u64, offset: i64, a: *const u8, a_length: usize, b: *mut u8, b_length: usize, c: *mut u16, c_length: usize, n: *mut u64) -> u64; }";
     let (mut exports, mut same) = (Functions::new(), Functions::new());
     exported(export, &mut exports);
     declared(right, &mut same);
@@ -120,7 +121,11 @@ fn a_changed_declaration_is_told_apart() {
             "b: *mut u8, b_length: usize, a: *const u8, a_length: usize",
         ),
         ("b: *mut u8", "b: *const u8"),
-        ("b_length: usize, n: *mut u64", "n: *mut u64, b_length: usize"),
+        ("c: *mut u16", "c: *mut u8"),
+        ("c: *mut u16", "c: *const u16"),
+        ("c: *mut u16, c_length: usize", "c_length: usize, c: *mut u16"),
+        ("c: *mut u16, c_length: usize, ", ""),
+        ("c_length: usize, n: *mut u64", "n: *mut u64, c_length: usize"),
         (", n: *mut u64", ""),
         ("n: *mut u64", "m: *mut u64"),
         ("-> u64;", "-> u32;"),

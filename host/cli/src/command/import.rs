@@ -7,12 +7,12 @@ use super::entry::{self, Entry};
 use super::input::Input;
 use super::kinds::{may_replace, must_be_apart, Kind};
 use super::options::Use::{Needed, Optional};
-use super::options::{FORCE, HGC, ISSUERS, JOURNAL, MODE, OFFSET, RECEIVED, REGISTER, WAIT};
+use super::options::{FORCE, HGC, ISSUERS, JOURNAL, MODE, OFFSET, PLAIN, RECEIVED, REGISTER, WAIT};
 use super::totals::Totals;
 use super::{clock, hints, input, mode, offset, texts, Answer, Command, Refusal, Told};
 use crate::files::{Disk, Fault, Held, Place};
 use graftspindle::sizes::{HGV_MOST, ROW, ROWS_MOST};
-use graftspindle::{Import, Number, Offset, Register};
+use graftspindle::{Counts, Import, Number, Offset, Register};
 
 pub static IMPORT: Command = Command {
     name: "import",
@@ -26,6 +26,7 @@ pub static IMPORT: Command = Command {
         Optional(&WAIT),
         Optional(&JOURNAL),
         Optional(&FORCE),
+        Optional(&PLAIN),
     ],
     words: &["HGV"],
     help: "\
@@ -35,7 +36,8 @@ unless it is given; ends and stamps go by it. The HGC shows it in local time, by
 with the HGC and the mode. R and OUT stand or fall together: killed at any moment, after the next command on R both are new or
 both are as they were. An HGC that is at OUT is replaced; a file of another kind is not. An import waits while another one of R
 runs, or a sweep. HGV or ROWS may be -, standard input. With a journal the import says where the list was imported before, or
-follows another list than the last one of its sender.
+follows another list than the last one of its sender. Equal PANs are found by an index, or, with --plain, by a search over
+everything for every line; what comes of it is the same.
 ",
     run,
 };
@@ -61,8 +63,19 @@ fn not_fetched(out: &Place) -> Refusal {
     ))
 }
 
+/// How equal PANs are found. It is proved that both ways answer alike and leave the same register and the same HGC.
+type Way = fn(&mut Register, &Import) -> Result<(Counts, Vec<u8>), Number>;
+
+fn way(given: &Arguments) -> Way {
+    if given.is_given(&PLAIN) {
+        Register::import_plain
+    } else {
+        Register::import
+    }
+}
+
 /// What can be said of a refusal.
-fn explained(number: Number, import: &Import, names: &Names, register: &[u8]) -> Refusal {
+fn explained(number: Number, import: &Import, way: Way, names: &Names, register: &[u8]) -> Refusal {
     let (hgv, rows) = (names.hgv, names.rows);
     match number {
         Number::Time => hints::of_time(import.reception, import.offset),
@@ -70,11 +83,11 @@ fn explained(number: Number, import: &Import, names: &Names, register: &[u8]) ->
         Number::Rows => Refusal::Number(number, rows.name.clone()),
         Number::Parties => hints::of_parties(hgv, rows),
         Number::Slots => {
-            let again = |register: &mut Register| register.import(import).map(|_| ());
+            let again = |register: &mut Register| way(register, import).map(|_| ());
             hints::of_slots(names.register, register, Some(import.reception), again)
         }
         Number::ThinList => {
-            hints::of_thin(names.register, register, hgv, |without| without.import(import).map(|(counts, _)| counts))
+            hints::of_thin(names.register, register, hgv, |without| way(without, import).map(|(counts, _)| counts))
         }
         other => hints::of_hgv(other, hgv),
     }
@@ -111,17 +124,17 @@ fn import<'a>(disk: &'a dyn Disk, given: &Arguments, entry: &mut Entry<'a>) -> A
     entry.say("reception", texts::shown(&reception));
     let import = Import { mode, reception: &reception, offset, rows: &rows.bytes, hgv: &hgv.bytes };
     let names = Names { register: &place.path().display().to_string(), rows: &rows, hgv: &hgv };
-    let answer = carry_out(&held, &import, &names, &hgc_place, entry);
+    let answer = carry_out(&held, &import, way(given), &names, &hgc_place, entry);
     entry.hold(held);
     answer
 }
 
-fn carry_out(held: &Held, import: &Import, names: &Names, out: &Place, entry: &mut Entry) -> Answer {
+fn carry_out(held: &Held, import: &Import, way: Way, names: &Names, out: &Place, entry: &mut Entry) -> Answer {
     let before = held.read()?;
     entry.begin(names.register, &before);
     let mut register = Register::from_bytes(before.clone());
-    let done = register.import(import);
-    let (counts, hgc) = done.map_err(|number| explained(number, import, names, &before))?;
+    let done = way(&mut register, import);
+    let (counts, hgc) = done.map_err(|number| explained(number, import, way, names, &before))?;
     entry.compare()?;
     let replaced = held.replace(register.bytes(), Some((out, &hgc)));
     let (taken, rejected) = (counts.taken, counts.rejected);

@@ -117,6 +117,7 @@ option!(
     "force",
     "Does what is refused without it: replaces a file of another kind, sweeps at a time that lies ahead."
 );
+option!(PLAIN, "plain", "Searches without an index: the same answer, register and HGC, later.");
 option!(WEIGHTS, "weights", "Only the records whose weight a line of their tariff cannot have, as a list.");
 option!(LISTS, "lists", "Counts the records by the list that touched each last.");
 option!(REJECTED, "rejected", "Only the lines that were rejected.");

@@ -82,7 +82,8 @@ fn more_slots_than_any_register_has() {
     }
 }
 
-/// The command gives a mode of the two, and room for every block: 21, 34, 53 and 63 only the functions can answer.
+/// The command gives a mode of the two, room for every block and a number for every slot: 21, 34, 36, 53 and 63 only the functions
+/// can answer.
 #[test]
 fn numbers_that_the_command_cannot_get() {
     let (rows, hgv) = (sample::row(), sample::hgv(1));
@@ -91,6 +92,11 @@ fn numbers_that_the_command_cannot_get() {
     assert_eq!(import(3, &mut []), 21);
     assert_eq!(raw::update(0, 0, &mut [0; SLOT], &hgv, &[]).number, 21);
     assert_eq!(import(1, &mut [0; 173]), 34);
+    let by_index = |index: &mut [u16]| {
+        let (mut register, mut hgc) = ([0; SLOT], [0; 174]);
+        raw::import_indexed(1, sample::RECEPTION, 0, &mut register, &rows, &hgv, &mut hgc, index).number
+    };
+    assert_eq!((by_index(&mut []), by_index(&mut [7])), (36, 0));
     let mut hgc = [0; 174];
     assert_eq!(import(1, &mut hgc), 0);
     assert_eq!(raw::read_back(&hgv, &hgc, &mut []).number, 53);
@@ -111,7 +117,7 @@ fn numbers_that_the_command_cannot_get() {
 
 #[test]
 fn every_number_has_words_of_its_own() {
-    let numbers: Vec<u64> = (21..=35).chain(40..=42).chain(51..=53).chain(61..=63).collect();
+    let numbers: Vec<u64> = (21..=36).chain(40..=42).chain(51..=53).chain(61..=63).collect();
     let mut all: Vec<&str> = numbers.iter().map(|&number| words_of(number)).collect();
     all.sort();
     all.dedup();
@@ -178,6 +184,10 @@ fn faults_of_the_command_line() {
         "sweep --at @register",
         "sweep @register @register",
         "sweep --dry-run=yes @register",
+        "sweep --plain @register",
+        "update --plain --copy @copy --mode full @hgv @hgc",
+        &IMPORT.replace(" --mode", " --plain=yes --mode"),
+        &IMPORT.replace(" --mode", " --plain --plain --mode"),
     ] {
         let before = folder.all();
         let done = graftspindle(&folder, line);

@@ -31,7 +31,7 @@ fn manual_page() {
         assert!(unescaped.contains(&format!(".TP\n.B {usage}\n")), "{usage}");
         options(&usage).iter().for_each(|option| assert!(unescaped.contains(&format!("\n.B {option}")), "{option}"));
     }
-    for status in (0..=4).chain(21..=35).chain(40..=42).chain(51..=53).chain(61..=63) {
+    for status in (0..=4).chain(21..=36).chain(40..=42).chain(51..=53).chain(61..=63) {
         assert!(page.contains(&format!("\n.B {status}\n")), "{status}");
     }
     assert!(page.lines().all(|line| !line.starts_with('\'')));
@@ -126,7 +126,7 @@ fn operating_has_each_status() {
     let cells = page.lines().filter_map(|line| line.strip_prefix("| ")?.split_once(" |"));
     let told: Vec<u64> =
         cells.flat_map(|(cell, _)| cell.split(", ")).filter_map(|number| number.parse().ok()).collect();
-    let all: Vec<u64> = (0..=4).chain(21..=35).chain(40..=42).chain(51..=53).chain(61..=63).collect();
+    let all: Vec<u64> = (0..=4).chain(21..=36).chain(40..=42).chain(51..=53).chain(61..=63).collect();
     for status in &all {
         assert_eq!(told.iter().filter(|known| *known == status).count(), 1, "{status}");
     }

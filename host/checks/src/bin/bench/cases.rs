@@ -2,11 +2,14 @@
 
 use graftspindle::raw::Counted;
 use graftspindle::sizes::SLOT;
-use graftspindle_checks::engines::{Engine, ENGINES};
-use graftspindle_checks::sample;
+use graftspindle_checks::engines::Engine;
+use graftspindle_checks::kinds::{kinds, Kind};
+use graftspindle_checks::{hashed, sample};
 
 pub struct Case {
     pub name: String,
+    /// Whether there is an import by an index beside it.
+    pub is_import: bool,
     pub mode: u64,
     pub offset: i64,
     /// The blocks that may be written, and those that are only read.
@@ -33,11 +36,6 @@ fn full(size: usize) -> Vec<u8> {
     sample::slots((0..size).map(sample::line))
 }
 
-/// A full list of rejected lines stops at 35 where the sender has records.
-fn full_of_another(size: usize) -> Vec<u8> {
-    sample::slots((0..size).map(|i| sample::line(i).replacen("900123", "900124", 1)))
-}
-
 /// Every second line is faulty.
 fn mixed_line(i: usize) -> String {
     if i.is_multiple_of(2) {
@@ -60,22 +58,19 @@ fn ahead(case: Case) -> Case {
 }
 
 fn imports(size: usize) -> Vec<Case> {
-    let n = size as u64;
-    let kinds: [(&str, Vec<u8>, Lines, u64); 3] = [
-        ("new lines, free register", free(size), sample::line, 0),
-        ("held lines, full register", full(size), sample::line, 0),
-        ("rejected lines, full register", full_of_another(size), sample::faulty_line, n),
-    ];
-    let case = |(kind, register, line, rejected): &(&str, Vec<u8>, Lines, u64), mode| Case {
-        name: format!("import, {kind}, mode {mode}"),
+    let case = |kind: &Kind, mode| Case {
+        name: format!("import, {}, mode {mode}", kind.name),
+        is_import: true,
         mode,
         offset: 0,
-        written: vec![register.clone(), vec![0xAA; 174 + 130 * size]],
-        read: vec![sample::row(), file(size, *line)],
+        written: vec![kind.register.clone(), vec![0xAA; 174 + 130 * (kind.taken + kind.rejected)]],
+        read: vec![sample::row(), kind.hgv.clone()],
         call: import,
-        expected: [0, n - rejected, *rejected, 174 + 130 * rejected],
+        expected: [0, kind.taken as u64, kind.rejected as u64, 174 + 130 * kind.rejected as u64],
     };
-    let local = ahead(case(&kinds[1], 2));
+    let kinds = kinds(size);
+    let held = kinds.iter().find(|kind| kind.name == "held lines, full register").expect("a kind of that name");
+    let local = ahead(case(held, 2));
     kinds.iter().flat_map(|kind| [case(kind, 1), case(kind, 2)]).chain([local]).collect()
 }
 
@@ -100,6 +95,7 @@ fn lookups(size: usize) -> Vec<Case> {
     ];
     let case = |(key, text, call, expected): (&str, String, _, _)| Case {
         name: format!("lookup by {key}"),
+        is_import: false,
         mode: 0,
         offset: 0,
         written: Vec::new(),
@@ -113,7 +109,7 @@ fn lookups(size: usize) -> Vec<Case> {
 /// The HGC that an import of the file into a free register writes.
 fn confirmed(size: usize, hgv: &[u8]) -> Vec<u8> {
     let mut hgc = vec![0; 174 + 130 * size];
-    let done = (ENGINES[1].import)(1, sample::RECEPTION, 0, &mut free(size), &sample::row(), hgv, &mut hgc);
+    let done = hashed::import(1, sample::RECEPTION, 0, &mut free(size), &sample::row(), hgv, &mut hgc);
     hgc.truncate(done.length as usize);
     hgc
 }
@@ -143,6 +139,7 @@ fn files(size: usize) -> [(&'static str, Vec<u8>, u64); 3] {
 fn read_backs(size: usize) -> Vec<Case> {
     let case = |(kind, hgv, rejected): (&str, Vec<u8>, u64)| Case {
         name: format!("read back, {kind}"),
+        is_import: false,
         mode: 0,
         offset: 0,
         written: vec![vec![0xAA; size]],
@@ -157,6 +154,7 @@ fn updates(size: usize) -> Vec<Case> {
     let [taken, mixed, rejected] = files(size);
     let case = |(kind, hgv, rejected): &(&str, Vec<u8>, u64), copy: &str, block: Vec<u8>, mode| Case {
         name: format!("update, {kind}, {copy} copy, mode {mode}"),
+        is_import: false,
         mode,
         offset: 0,
         written: vec![block],
@@ -188,6 +186,7 @@ fn writings(size: usize) -> Vec<Case> {
     let length = 192 + 128 * size;
     let case = |(order, accounts): (&str, Vec<u8>)| Case {
         name: format!("write, all good{order}"),
+        is_import: false,
         mode: 0,
         offset: 0,
         written: vec![vec![0xAA; length]],
@@ -215,6 +214,7 @@ fn sweeps(size: usize) -> Vec<Case> {
     ];
     let case = |(kind, register, time, removed): (&str, Vec<u8>, &str, usize)| Case {
         name: format!("sweep, {kind}"),
+        is_import: false,
         mode: 0,
         offset: 0,
         written: vec![register],

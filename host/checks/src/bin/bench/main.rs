@@ -1,6 +1,6 @@
-//! How long each function takes on full blocks: proved, in plain Rust, and in Rust with hashed searches, beside copying the
-//! blocks that it is lent, which nothing that reads them all can beat. Same machine, same run, same bytes, all built for
-//! release. It prints tables for docs/BENCHMARKS.md, and stops if two implementations differ in an answer or a byte. An
+//! How long each function takes on full blocks: proved, of imports in both ways, in plain Rust, and in Rust with hashed searches,
+//! beside copying the blocks that it is lent, which nothing that reads them all can beat. Same machine, same run, same bytes, all
+//! built for release. It prints tables for docs/BENCHMARKS.md, and stops if two implementations differ in an answer or a byte. An
 //! argument leaves only the calls whose names have it in them.
 
 mod cases;
@@ -8,23 +8,28 @@ mod clock;
 mod tables;
 
 use cases::Case;
-use graftspindle_checks::engines::ENGINES;
+use graftspindle_checks::engines::{Engine, ENGINES};
 
 const SIZES: [usize; 4] = [1024, 2048, 4096, 8192];
 
 /// All calls are measured so often, one after the other, and the least counts: a processor may be slow for many seconds.
 const PASSES: usize = 6;
 
-/// Milliseconds of each implementation, in the order of `ENGINES`, and of copying.
+/// Milliseconds of each implementation by its name, and of copying. What is no import is not timed by an index.
 pub struct Measured {
     pub name: String,
-    pub engines: Vec<f64>,
+    pub engines: Vec<(&'static str, f64)>,
     pub copying: f64,
 }
 
 fn measure(case: &Case) -> Measured {
     let run = |engine| clock::least(&case.written, |blocks| (case.call)(engine, case, blocks));
-    let (engines, outcomes): (Vec<f64>, Vec<_>) = ENGINES.iter().map(run).unzip();
+    let asked = ENGINES.iter().filter(|engine| case.is_import || engine.name != "indexed");
+    let named = |engine: &'static Engine| {
+        let (time, outcome) = run(engine);
+        ((engine.name, time), outcome)
+    };
+    let (engines, outcomes): (Vec<_>, Vec<_>) = asked.map(named).unzip();
     assert!(outcomes.iter().all(|outcome| *outcome == outcomes[0]), "{}: two outcomes", case.name);
     assert_eq!(outcomes[0].0, case.expected, "{}", case.name);
     Measured { name: case.name.clone(), engines, copying: clock::copying(&case.written, &case.read) }
@@ -32,8 +37,13 @@ fn measure(case: &Case) -> Measured {
 
 impl Measured {
     fn least(self, other: Measured) -> Measured {
-        let engines = self.engines.iter().zip(&other.engines).map(|(a, b)| a.min(*b)).collect();
+        let engines = self.engines.iter().zip(&other.engines).map(|(a, b)| (a.0, a.1.min(b.1))).collect();
         Measured { name: self.name, engines, copying: self.copying.min(other.copying) }
+    }
+
+    /// The time of the implementation of this name, where it has one.
+    pub fn of(&self, name: &str) -> Option<f64> {
+        self.engines.iter().find(|(known, _)| *known == name).map(|(_, time)| *time)
     }
 }
 
@@ -56,6 +66,10 @@ fn main() {
         cases.iter().map(|cases| cases.iter().map(measure).collect()).collect()
     };
     let by_size: Pass = (2..=PASSES).map(pass).fold(pass(1), least);
-    tables::largest(&by_size[SIZES.len() - 1], SIZES[SIZES.len() - 1]);
-    tables::growth(&by_size, &SIZES);
+    let (largest, size) = (&by_size[SIZES.len() - 1], SIZES[SIZES.len() - 1]);
+    println!("{size} lines and slots; times in ms.");
+    tables::IMPORTS.print(largest);
+    tables::OTHERS.print(largest);
+    tables::growth("Proved", "proved", &by_size, &SIZES);
+    tables::growth("Proved, by an index", "indexed", &by_size, &SIZES);
 }
