@@ -10,4 +10,5 @@ pub mod Thin
 pub mod Stamps
 pub mod Sweeps
 pub mod Clocks
+pub mod Indexed
 pub mod laws

@@ -15,3 +15,4 @@ pub mod Stamps
 pub mod Sweeps
 pub mod Mended
 pub mod Clocks
+pub mod Indexed

@@ -1,11 +1,11 @@
 -- The indexed import beside the import: the same where the index is long enough; else 36, or the stop in front of it. Assumes nothing.
-use mathlib.Core.Path.{_≡_, refl, sym, ap, _∙_}
+use mathlib.Core.Path.{_≡_, refl, sym}
 use mathlib.Core.Bool.{true}
 use mathlib.Core.List.{List, [], _∷_, _++_}
 use Prim.Native.Nat.{ℕ, _≤_, _<_}
-use borrow.Author.Tests.{le-ltb, lt-ltb}
+use borrow.Author.Tests.{le-ltb, lt-ltb, ltb-false}
 use Rattle.theory.specs.First.{_if_, first, choose}
-use Rattle.theory.specs.laws.First.{otherwise, numbered, first-append}
+use Rattle.theory.specs.laws.First.{numbered, fitsAt, none-at, first-clear}
 use Rattle.theory.specs.laws.Stopped.{at-stop, by-first}
 use Rattle.slots.specs.Slots.{slotsIn}
 use Rattle.stops.specs.Stops.{callStops, fileStops, formStops, indexShort, indexedFormStops, indexedFormStop}
@@ -34,14 +34,15 @@ module _ (k : ℕ) (f : Handed) (register : List ℕ) where
 
   -- ---- too short
 
-  calls : numbered (callStops (f .mode) (timed f) register (f .rows)) ≡ true
-  unfolding callStops numbered
-  calls = refl
-
   -- 36 decides where none of 21 to 24 does
-  pub number-short : k < slotsIn register → indexedNumber k f register ≡ otherwise (first (callStops (f .mode) (timed f) register (f .rows))) 36
+  pub number-short : k < slotsIn register → indexedNumber k f register ≡ first (callStops (f .mode) (timed f) register (f .rows) ++ (36 if indexShort k register) ∷ [])
   unfolding indexedNumber indexedStops indexedFormStops callStops indexShort first choose
-  number-short l = rw (lt-ltb k (slotsIn register) l) (first-append (callStops (f .mode) (timed f) register (f .rows)) ((36 if true) ∷ []) calls)
+  number-short l = rw (lt-ltb k (slotsIn register) l)
+
+  -- so where no stop holds it is long enough
+  pub number-long : indexedNumber k f register ≡ 0 → slotsIn register ≤ k
+  unfolding indexedNumber indexedStops indexedFormStops callStops fileStops judgedStops indexShort numbered fitsAt
+  number-long e = ltb-false k (slotsIn register) (none-at 36 (first-clear (indexedStops k f register) refl e))
 
   -- ---- a stop of form
 
