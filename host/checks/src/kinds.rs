@@ -62,8 +62,14 @@ pub fn kinds(size: usize) -> Vec<Kind> {
         kind("held lines, full register", full(size, every), file(0..size), size, 0),
         kind("held lines, PANs scattered, full register", full(size, every), file(scattered(size)), size, 0),
         kind("half another's, full register", full(size, |i| i % 2 == 0), file(0..size), half, half),
-        kind("each PAN twice, free register", free(size), file((0..size).map(|i| i % half)), half, half),
-        kind("one PAN, free register", free(size), file((0..size).map(|_| 0)), 1, size - 1),
+        kind(
+            "each PAN twice, full register",
+            full(size, |i| half <= i),
+            file((0..size).map(|i| half + i % half)),
+            half,
+            half,
+        ),
+        kind("one PAN, full register", full(size, |i| i == size - 1), file((0..size).map(|_| size - 1)), 1, size - 1),
         kind("rejected lines, full register", full(size, |_| false), sample::hgv_of(&faulty), 0, size),
         kind("100 lines, full register", full(size, own_few), file((0..FEW).map(|i| few[i * 37 % FEW])), FEW, 0),
     ]
