@@ -12,6 +12,7 @@ mod each;
 mod found;
 mod imports;
 mod many;
+mod numbered;
 mod pairs;
 mod sweeps;
 mod tell;
@@ -62,6 +63,9 @@ pub fn of_block(tag: &[u8], f: &[u8], samples: &[u8; SAMPLES], aloud: bool) -> u
     }
     if texts::same(tag, b"slots   ") {
         return many::of_slots(f, aloud);
+    }
+    if texts::same(tag, b"numbered") {
+        return numbered::of_series(f, samples, aloud);
     }
     of_pair(tag, f, samples, aloud)
 }
