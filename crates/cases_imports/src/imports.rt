@@ -1,7 +1,8 @@
 // An import, from one line: mode, reception, rows, register and HGV by their letters, the length of the HGC's buffer, the
 // HGV's where it is not its own, and a place of the HGV changed. Answered are the four numbers and, where the first is 0,
 // the register after it and the HGC. The first number is handed back; aloud, all is told. `local` has the offset in front of
-// the same fields, and a blank.
+// the same fields, and a blank; `indexed` the index in front of that: its length, a blank, the number that each of its places
+// holds at first, and a blank.
 ghost use Prim.Native.Nat.{_≤_};
 ghost use lib.ListN.{length};
 use crate::blocks::REGISTER;
@@ -19,6 +20,17 @@ use vectors::SAMPLES;
 
 // A byte that stands in none of these HGCs.
 const UNWRITTEN: u8 = 238;
+
+// The longest index.
+const INDEX: usize = 16;
+
+// How an import is called: by an index or not, the index's length and the number in each of its places, and the offset.
+struct Call {
+    indexed: bool,
+    length: usize,
+    number: u16,
+    offset: i64,
+}
 
 // Has nothing been written from byte `from` on, counted from 0.
 fn is_kept(buffer: &[u8], from: usize) -> bool {
@@ -42,8 +54,28 @@ fn lay_rows(to: &mut [u8], samples: &[u8; SAMPLES], letters: &[u8]) -> usize
     k * ROW
 }
 
+// The import, by an index where one is called for.
+fn import_by(
+    call: Call,
+    mode: u64,
+    reception: &[u8],
+    register: &mut [u8],
+    rows: &[u8],
+    hgv: &[u8],
+    hgc: &mut [u8],
+) -> Imported {
+    let offset = call.offset;
+    if !call.indexed {
+        return importer::import(mode, reception, offset, register, rows, hgv, hgc);
+    }
+    let mut index = [call.number; INDEX];
+    let n = at_most(call.length, INDEX);
+    let lent = &mut index[0..n];
+    indexed::import_indexed(mode, reception, offset, register, rows, hgv, hgc, lent)
+}
+
 fn imported(
-    offset: i64,
+    call: Call,
     f: &[u8],
     samples: &[u8; SAMPLES],
     register: &mut [u8],
@@ -52,10 +84,10 @@ fn imported(
 ) -> Imported {
     let mut rows = [0u8; 24];
     let end = lay_rows(&mut rows, samples, texts::field(f, 18, 18));
-    importer::import(
+    import_by(
+        call,
         number_in(texts::field(f, 1, 1)) as u64,
         texts::field(f, 3, 16),
-        offset,
         register,
         &rows[0..end],
         hgv,
@@ -85,7 +117,7 @@ fn tell_import(f: &[u8], samples: &[u8; SAMPLES], r: Imported, register: &[u8], 
 }
 
 fn with_blocks(
-    offset: i64,
+    call: Call,
     f: &[u8],
     samples: &[u8; SAMPLES],
     register: &mut [u8],
@@ -93,20 +125,20 @@ fn with_blocks(
     hgc: &mut [u8],
     aloud: bool,
 ) -> u64 {
-    let r = imported(offset, f, samples, register, hgv, hgc);
+    let r = imported(call, f, samples, register, hgv, hgc);
     if aloud {
         tell_import(f, samples, r, register, hgc);
     }
     r.number
 }
 
-fn with_file(offset: i64, f: &[u8], samples: &[u8; SAMPLES], hgv: &[u8], aloud: bool) -> u64 {
+fn with_file(call: Call, f: &[u8], samples: &[u8; SAMPLES], hgv: &[u8], aloud: bool) -> u64 {
     let mut register = [0u8; REGISTER];
     let mut hgc = [UNWRITTEN; 704];
     let end = lay_slots(&mut register, samples, texts::field(f, 20, 23));
     let room = at_most(number_in(texts::field(f, 31, 34)), 704);
     with_blocks(
-        offset,
+        call,
         f,
         samples,
         &mut register[0..end],
@@ -116,18 +148,43 @@ fn with_file(offset: i64, f: &[u8], samples: &[u8; SAMPLES], hgv: &[u8], aloud: 
     )
 }
 
-fn import_at(offset: i64, f: &[u8], samples: &[u8; SAMPLES], aloud: bool) -> u64 {
+fn import_as(call: Call, f: &[u8], samples: &[u8; SAMPLES], aloud: bool) -> u64 {
     let mut hgv = [0u8; 704];
     let own = lay_file(&mut hgv, samples, texts::field(f, 25, 29));
     vectors::change(&mut hgv, texts::field(f, 41, 65536));
     let length = sent_length(texts::field(f, 36, 39), own);
-    with_file(offset, f, samples, texts::field(&hgv, 1, length), aloud)
+    with_file(call, f, samples, texts::field(&hgv, 1, length), aloud)
+}
+
+// Without an index.
+fn plain(offset: i64) -> Call {
+    Call {
+        indexed: false,
+        length: 0,
+        number: 0,
+        offset,
+    }
 }
 
 pub fn of_import(f: &[u8], samples: &[u8; SAMPLES], aloud: bool) -> u64 {
-    import_at(0, f, samples, aloud)
+    import_as(plain(0), f, samples, aloud)
 }
 
 pub fn of_local(f: &[u8], samples: &[u8; SAMPLES], aloud: bool) -> u64 {
-    import_at(offset_in(f), texts::field(f, 7, 65536), samples, aloud)
+    import_as(
+        plain(offset_in(f)),
+        texts::field(f, 7, 65536),
+        samples,
+        aloud,
+    )
+}
+
+pub fn of_indexed(f: &[u8], samples: &[u8; SAMPLES], aloud: bool) -> u64 {
+    let call = Call {
+        indexed: true,
+        length: number_in(texts::field(f, 1, 4)),
+        number: at_most(number_in(texts::field(f, 6, 10)), 65535) as u16,
+        offset: offset_in(texts::field(f, 12, 16)),
+    };
+    import_as(call, texts::field(f, 18, 65536), samples, aloud)
 }

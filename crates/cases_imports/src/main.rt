@@ -12,12 +12,13 @@ mod each;
 mod found;
 mod imports;
 mod many;
+mod numbered;
 mod pairs;
 mod sweeps;
 mod tell;
 
 // The most bytes of `stdin` that are read.
-const INPUT: usize = 131072;
+const INPUT: usize = 196608;
 
 fn of_swept(tag: &[u8], f: &[u8], samples: &[u8; SAMPLES], aloud: bool) -> u64 {
     if texts::same(tag, b"sweep   ") {
@@ -32,6 +33,9 @@ fn of_swept(tag: &[u8], f: &[u8], samples: &[u8; SAMPLES], aloud: bool) -> u64 {
 fn of_local(tag: &[u8], f: &[u8], samples: &[u8; SAMPLES], aloud: bool) -> u64 {
     if texts::same(tag, b"local   ") {
         return imports::of_local(f, samples, aloud);
+    }
+    if texts::same(tag, b"indexed ") {
+        return imports::of_indexed(f, samples, aloud);
     }
     if texts::same(tag, b"utc     ") {
         return pairs::of_utc(f, samples, aloud);
@@ -59,6 +63,9 @@ pub fn of_block(tag: &[u8], f: &[u8], samples: &[u8; SAMPLES], aloud: bool) -> u
     }
     if texts::same(tag, b"slots   ") {
         return many::of_slots(f, aloud);
+    }
+    if texts::same(tag, b"numbered") {
+        return numbered::of_series(f, samples, aloud);
     }
     of_pair(tag, f, samples, aloud)
 }

@@ -1,5 +1,5 @@
 // Blocks of the largest size. The first number of the answer is handed back; aloud, all is told.
-ghost use Prim.Native.Nat.{_≤_};
+ghost use Prim.Native.Nat.{_+_, _*_, _≤_};
 ghost use lib.ListN.{length};
 use crate::blocks::at_most;
 use crate::blocks::number_in;
@@ -36,18 +36,18 @@ pub fn of_slots(f: &[u8], aloud: bool) -> u64 {
     with_room(f, &room, aloud)
 }
 
-// A file of n lines B.
-fn lay_lines(hgv: &mut [u8], samples: &[u8; SAMPLES], n: usize)
-    requires { ⌜ (n ≤ 8193) × (1048896 ≤ length (now hgv)) ⌝ }
+// A file with a line for each letter.
+pub fn lay_lines(hgv: &mut [u8], samples: &[u8; SAMPLES], letters: &[u8])
+    requires { ⌜ 192 + length (now letters) * 128 ≤ length (now hgv) ⌝ }
 {
-    let letters = [b'B'; LINES];
+    let n = letters.len();
     vectors::lay(hgv, 1, HEADER, samples, b"0");
-    vectors::lay(hgv, HEADER + 1, LINE, samples, &letters[0..n]);
+    vectors::lay(hgv, HEADER + 1, LINE, samples, letters);
     vectors::lay(hgv, HEADER + n * LINE + 1, FOOTER, samples, b"T");
     numbers::put_number(hgv, 66, 15, n as u64);
 }
 
-// Each line is to be rejected.
+// So many lines B, of which each is to be rejected.
 fn import_lines(
     f: &[u8],
     samples: &[u8; SAMPLES],
@@ -59,7 +59,8 @@ fn import_lines(
 {
     let n = at_most(number_in(f), LINES);
     let mut register = [0u8; SLOT];
-    lay_lines(hgv, samples, n);
+    let letters = [b'B'; LINES];
+    lay_lines(hgv, samples, &letters[0..n]);
     let r = importer::import(
         1,
         b"20250310050000",

@@ -10,6 +10,7 @@ pub mod found;
 pub mod given;
 pub mod imports;
 pub mod many;
+pub mod numbered;
 pub mod pairs;
 pub mod sweeps;
 

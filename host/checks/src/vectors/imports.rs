@@ -6,7 +6,7 @@
 
 use super::answer::{kept, slots};
 use super::blocks::{change, field, letters, number, rest, sent};
-use super::{found, many, pairs, sweeps, Answer, Samples};
+use super::{found, many, numbered, pairs, sweeps, Answer, Samples};
 use crate::plain;
 
 /// A byte that stands in none of these HGCs.
@@ -21,7 +21,7 @@ fn is_kept(block: &[u8]) -> bool {
     block.iter().all(|&b| b == UNWRITTEN)
 }
 
-/// The longest index that a program has.
+/// The longest index that a few letters are imported by.
 const INDEX: usize = 16;
 
 /// An import, by an index where one is lent.
@@ -62,10 +62,10 @@ fn offset(f: &[u8]) -> i64 {
     }
 }
 
-/// The index that stands in front.
-fn index(f: &[u8]) -> Vec<u16> {
+/// The index that stands in front, of so many places at most.
+pub fn index(f: &[u8], most: usize) -> Vec<u16> {
     let state = number(field(f, 6, 10)).min(usize::from(u16::MAX)) as u16;
-    vec![state; number(field(f, 1, 4)).min(INDEX)]
+    vec![state; number(field(f, 1, 4)).min(most)]
 }
 
 fn of_local(samples: &Samples, index: Option<Vec<u16>>, f: &[u8]) -> Option<Answer> {
@@ -76,9 +76,10 @@ pub fn answer(samples: &Samples, tag: &[u8], f: &[u8]) -> Option<Answer> {
     match tag {
         b"import  " => of_import(samples, None, 0, f),
         b"local   " => of_local(samples, None, f),
-        b"indexed " => of_local(samples, Some(index(f)), rest(f, 12)),
+        b"indexed " => of_local(samples, Some(index(f, INDEX)), rest(f, 12)),
         b"many    " => many::of_lines(samples, f),
         b"slots   " => many::of_slots(f),
+        b"numbered" => numbered::of_series(samples, f),
         b"readback" => pairs::of_read(samples, f),
         b"update  " => pairs::of_update(samples, 0, f),
         b"utc     " => pairs::of_update(samples, offset(f), rest(f, 7)),

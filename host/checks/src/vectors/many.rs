@@ -14,16 +14,22 @@ pub fn of_slots(f: &[u8]) -> Option<Answer> {
     (bytes <= MORE * SLOT).then(|| Answer::truth(plain::in_order(&vec![0; bytes])))?
 }
 
+/// The reception, and the row of the sender.
+pub const RECEPTION: &[u8] = b"20250310050000";
+pub const ROWS: &[u8] = b"97990012      0816900123";
+
+/// The file of these lines.
+pub fn file(samples: &Samples, lines: &[u8]) -> Vec<u8> {
+    let mut header = samples.laid(LINE, b"0");
+    header[65..80].copy_from_slice(format!("{:015}", lines.len() / LINE).as_bytes());
+    [&header, lines, &samples.laid(64, b"T")].concat()
+}
+
 /// A file of so many lines B.
 pub fn of_lines(samples: &Samples, f: &[u8]) -> Option<Answer> {
-    let n = number(field(f, 1, 15)).min(MORE);
-    let mut hgv = samples.laid(LINE, b"0");
-    hgv[65..80].copy_from_slice(format!("{n:015}").as_bytes());
-    hgv.extend(samples.laid(LINE, &vec![b'B'; n]));
-    hgv.extend(samples.laid(64, b"T"));
+    let hgv = file(samples, &samples.laid(LINE, &vec![b'B'; number(field(f, 1, 15)).min(MORE)]));
     let (mut register, mut hgc) = (vec![0; SLOT], vec![0; 174 + 8192 * 130]);
-    let rows = b"97990012      0816900123";
-    let done = plain::import(1, b"20250310050000", 0, &mut register, rows, &hgv, &mut hgc);
+    let done = plain::import(1, RECEPTION, 0, &mut register, ROWS, &hgv, &mut hgc);
     let behind = format!("{} {}", counted(done.taken, done.rejected), done.length).into_bytes();
     Some(Answer { first: done.number.to_string(), behind })
 }
