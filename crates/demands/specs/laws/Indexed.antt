@@ -47,8 +47,7 @@ module _ (k : ℕ) (f : Handed) (register : List ℕ) (r : Imported) (b g : List
   pub indexed-refusal : (r .number ≡ 0 → ⊥) → (r ≡ record { number = r .number; taken = 0; rejected = 0; length = 0 }) × ((b ≡ register) × (g ≡ f .hgc))
   unfolding ImportIndexed refusal
   indexed-refusal z =
-      let n = number-indexed in
-      (
+      let n = number-indexed in (
         o .0 ∙ rw (← n) (at-stop (r .number) _ _ z),
         (o .1 .0 ∙ rw (← n) (at-stop (r .number) _ _ z), o .1 .1 ∙ rw (← n) (at-stop (r .number) _ _ z)),
       )
