@@ -1,5 +1,6 @@
-// Keys of lines looked for among the parts of a block. The places of the parts are sorted by their keys once, and what is
-// found by halving is tested: only where that fails are all parts looked at.
+// Keys of lines looked for among the parts of a block, and of each part the first that has its key. The places of the parts
+// are sorted by their keys once, and the order is tested; what is found in it by halving is tested too. Only where a test fails
+// are all parts looked at.
 ghost use mathlib.Core.Path.{_≡_};
 ghost use mathlib.Core.Bool.{true};
 ghost use Prim.Native.Nat.{_*_, _-_, _≤_, _<_};
