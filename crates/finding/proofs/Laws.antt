@@ -7,7 +7,7 @@ use native.Mathlib.Omega.{arith}
 use native.Mathlib.Numerals.{add-one}
 use lib.Dec.{eqb, ltb}
 use lib.ListN.{length, getD, set, length-set, take, replicate, getD-replicate}
-use lib.Seq.{ext-getD, getD-set-same, getD-set-other, getD-take}
+use lib.Seq.{getD-set-same, getD-set-other}
 use borrow.Author.Tests.{eqb-true, eqb-false, ltb-true, ltb-false, not-false}
 use Rattle.theory.specs.laws.Truth.{and-split}
 use Rattle.theory.specs.Same.{eqs}
@@ -21,15 +21,16 @@ use Rattle.theory.specs.laws.Pick.{good-no}
 use Rattle.theory.specs.Place.{place}
 use Rattle.theory.specs.laws.Place.{Placing, placing-start, placing-on, placing-off, placing-end}
 use Rattle.theory.specs.Table.{tableOf}
-use Rattle.theory.specs.laws.Table.{entry, length-table}
+use Rattle.theory.specs.laws.Table.{is-table, cut-is}
 use Rattle.keys.specs.declared.Keys.{Keys}
 use Rattle.keys.specs.Keys.{partsOf, keyOf, keyAt}
 use Rattle.keys.specs.Less.{less}
 use Rattle.keys.specs.laws.Less.{less-trans, less-no}
 use Rattle.sorting.specs.Counts.{counts}
-use Rattle.sorting.specs.laws.Ranks.{any-two}
+use Rattle.sorting.specs.laws.Ranks.{any-two, one-rank}
 use Rattle.ordering.specs.Ranks.{ranked}
 use Rattle.finding.specs.Places.{hasKey, placeFor, firstFor}
+use Rattle.finding.specs.laws.Unmarked.{places-unmarked}
 use Rattle.finding.specs.laws.Sorted.{Follows, higher, same, Rises, Sorted, Led}
 
 -- ---- the tests, with the code's values as equations
@@ -165,21 +166,10 @@ module _ (keys : Keys) (b : List ℕ) (n : ℕ) (t : List ℕ) where
       -- and the part there has the key: it is the first
       module _ (l : q < n) (here : at q ≡ t) where
         not-before : (c : ℕ) → c < getD o q 0 → c < n → keyAt keys b c ≡ t → ⊥
-        not-before c m k e = go (ltb x q) refl (ltb q x) refl
-          where
-            x : ℕ
-            x = getD (s .ranks) c 0
-
-            at-c : (x < n) × (getD o x 0 ≡ c)
-            at-c = s .ranked c k
-
-            go : (r : Bool) → ltb x q ≡ r → (u : Bool) → ltb q x ≡ u → ⊥
-            go true p u v = less-no _ (rw (at-c .1, e) at (low x (ltb-true x q p)))
-            go false p true v = follows-no keys b t (getD o q 0) c (rw (at-c .1) at (between q x (ltb-true q x v) (at-c .0))) here e m
-            go false p false v =
-                let f : x ≡ q = omega (arith, ltb-false x q p, ltb-false q x v) in
-                let g : getD o q 0 ≡ c = rw (← f) (at-c .1) in
-                omega arith
+        not-before c m k e =
+            let (x, at-c) = s .ranked c k in
+            one-rank o c (getD o q 0) _ q at-c refl m (λ p. less-no _ (rw (at-c, e) at (low _ p)))
+            (λ p. follows-no keys b t (getD o q 0) c (rw at-c at (between q _ p x)) here e m)
 
         pub found-here : getD o q 0 ≡ place has (chop w n b)
         unfolding keyAt
@@ -265,28 +255,15 @@ module _ (keys : Keys) (n : ℕ) (b o : List ℕ) (s : Sorted keys b o n) where
 
   pub led-end : (i : ℕ) (found : List ℕ) → Led keys n b o i found → n ≤ i → found ≡ tableOf (firstFor keys n b) n
   led-end i found v h =
-      ext-getD 0 found (tableOf (firstFor keys n b) n) (v .size ∙ sym (length-table (firstFor keys n b) n))
-      (λ a l. let m : a < n = rw (← v .size) l in
-      let (x, y) = s .ranked a m in
-      (rw y at (v .told (getD (s .ranks) a 0) (omega arith))) ∙ sym (entry (firstFor keys n b) n a m))
+      is-table (firstFor keys n b) n found (v .size)
+      (λ a l. let (x, y) = s .ranked a l in rw y at (v .told (getD (s .ranks) a 0) (omega arith)))
 
 -- where the parts themselves are the lines, and each is marked 0
-module _ (keys : Keys) (n m : ℕ) (h : n ≤ m) (b : List ℕ) where
-  abbrev zeros : List ℕ
-  zeros = take n (replicate m 0)
-
-  abbrev among : ℕ → ℕ
-  among = placeFor (keyOf keys) (partsOf keys n b) (keyOf keys) (keys .width) b zeros
-
-  place-first : (i : ℕ) → i < n → among i ≡ firstFor keys n b i
-  unfolding placeFor firstFor keyAt good
-  place-first i l = let z : getD zeros i 0 ≡ 0 = getD-take n (replicate m 0) i 0 l ∙ getD-replicate m i 0 0 (omega arith) in rw z
-
-  pub places-firsts : (found : List ℕ) → found ≡ tableOf among n → found ≡ tableOf (firstFor keys n b) n
-  places-firsts found e =
-      let f = firstFor keys n b in
-      e ∙ ext-getD 0 (tableOf among n) (tableOf f n) (length-table among n ∙ sym (length-table f n))
-      (λ i l. let k : i < n = rw (← length-table among n) l in entry among n i k ∙ place-first i k ∙ sym (entry f n i k))
+pub places-firsts : (keys : Keys) (n m : ℕ) → n ≤ m → (b found : List ℕ) → found ≡ tableOf (placeFor (keyOf keys) (partsOf keys n b) (keyOf keys) (keys .width) b (take n (replicate m 0))) n
+    → found ≡ tableOf (firstFor keys n b) n
+unfolding firstFor keyAt
+places-firsts keys n m h b found e =
+    e ∙ places-unmarked (keyOf keys) (partsOf keys n b) (keyOf keys) (keys .width) b (take n (replicate m 0)) n (λ i l. rw (cut-is n m 0 h) (getD-replicate n i 0 0 l))
 
 -- ---- one line
 
@@ -324,7 +301,7 @@ module _ (f : ℕ → ℕ) where
         go j false q l = getD-set-other block i j x 0 (eqb-false j i q) ∙ v .stands j (omega (arith, eqb-false j i q))
 
     pub filled-end : length block ≤ i → block ≡ tableOf f n
-    filled-end h = ext-getD 0 block (tableOf f n) (v .size ∙ sym (length-table f n)) (λ j l. v .stands j (omega arith) ∙ sym (entry f n j (omega (arith, v .size))))
+    filled-end h = is-table f n block (v .size) (λ j l. v .stands j (omega (arith, v .size)))
 
   pub filled-none : (block : List ℕ) → length block ≡ 0 → block ≡ tableOf f (length block)
   filled-none block e = filled-end (length block) 0 block (filled-start block) (omega arith)

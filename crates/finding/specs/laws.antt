@@ -1,2 +1,3 @@
+pub mod Unmarked
 pub mod Sorted
 pub mod Outcomes

@@ -66,9 +66,13 @@ stops f register = formStops (f .mode) (timed f) register (f .rows) (f .hgv) ++ 
 unfoldable pub importNumber : Handed → List ℕ → ℕ
 importNumber f register = first (stops f register)
 
+-- the four numbers that are answered
+abbrev pub answered : ℕ → ℕ → ℕ → ℕ → Imported
+answered number taken rejected size = record { number = number; taken = taken; rejected = rejected; length = size }
+
 -- a stop returns its number and zero counts
 unfoldable pub refusal : ℕ → Imported
-refusal number = record { number = number; taken = 0; rejected = 0; length = 0 }
+refusal number = answered number 0 0 0
 
 -- success returns 0 and the three numbers
 unfoldable pub success : Handed → List ℕ → Imported

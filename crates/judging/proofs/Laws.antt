@@ -1,11 +1,10 @@
 -- What the functions of this crate cite. Assumes nothing.
-use mathlib.Core.Path.{_≡_, refl, sym, ap, _∙_}
+use mathlib.Core.Path.{_≡_, refl, sym, _∙_}
 use mathlib.Core.Bool.{Bool, true, false, not, _||_}
-use mathlib.Core.List.{List, _∷_, map}
-use Prim.Native.Nat.{ℕ, zero, suc, _+_, _*_, _≤_, _<_}
+use mathlib.Core.List.{List, map}
+use Prim.Native.Nat.{ℕ, _+_, _*_, _≤_, _<_}
 use native.Mathlib.Omega.{arith}
-use lib.ListN.{length, take, getD, set, replicate, length-set, length-replicate}
-use lib.Seq.{ext-getD}
+use lib.ListN.{length, getD, set, replicate, length-set, length-replicate, getD-replicate}
 use borrow.Author.Tests.{lt-ltb, le-ltb}
 use Rattle.theory.specs.laws.Truth.{or-true, or-false}
 use Rattle.theory.specs.First.{choose, first}
@@ -20,9 +19,9 @@ use Rattle.theory.specs.laws.Pick.{good-no, bad-is}
 use Rattle.theory.specs.laws.Scan.{Judged, judged-start, judged-turn, judged-end}
 use Rattle.theory.specs.Place.{place}
 use Rattle.theory.specs.Table.{tableOf}
-use Rattle.theory.specs.laws.Table.{entry, length-table}
 use Rattle.sizes.specs.Sizes.{slotLength, linesMost, slotsMost}
 use Rattle.finding.specs.Places.{hasKey, placeFor}
+use Rattle.finding.specs.laws.Unmarked.{places-unmarked}
 use Rattle.columns.specs.Columns.{panOf}
 use Rattle.lines.specs.Rules.{lineFault}
 use Rattle.slots.specs.Slots.{slotsIn, slotsOf, records, usedPart}
@@ -40,7 +39,7 @@ use Rattle.judging.specs.Places.{placesOf}
 use Rattle.judging.specs.laws.Places.{places-told, length-places}
 use Rattle.judging.specs.laws.Held.{foreignAt, held-at}
 use Rattle.judging.specs.laws.Firsts.{panAt, firstAt, firstsOf}
-use Rattle.judging.specs.laws.Named.{named, Flagged, zero-at, flagged-start, flag-within, flagged-turn}
+use Rattle.judging.specs.laws.Named.{named, Flagged, flagged-start, flag-within, flagged-turn}
 
 -- ---- one line
 
@@ -144,18 +143,8 @@ module _ (rows from : List ℕ) (R : List (List ℕ)) (width : ℕ) (lines : Lis
 
 pub places-all : (b : List ℕ) (width : ℕ) (lines marks : List ℕ) (n : ℕ) → marks ≡ replicate n 0 → (t : List ℕ)
     → t ≡ tableOf (placeFor panOf (chop slotLength (slotsIn b) b) panOf width lines marks) n → t ≡ placesOf (slotsOf b) width lines n
-unfolding slotsOf placesOf placeFor placeOf holdsPan good
-places-all b width lines marks n z t e =
-    e ∙ ext-getD 0 (tableOf f n) (tableOf g n) (length-table f n ∙ sym (length-table g n)) (λ i l. same i (omega (arith, length-table f n)))
-  where
-    f : ℕ → ℕ
-    f = placeFor panOf (slotsOf b) panOf width lines marks
-
-    g : ℕ → ℕ
-    g i = placeOf (panOf (partAt width i lines)) (slotsOf b)
-
-    same : (i : ℕ) → i < n → getD (tableOf f n) i 0 ≡ getD (tableOf g n) i 0
-    same i l = entry f n i l ∙ rw (z, zero-at n i) (sym (entry g n i l))
+unfolding slotsOf placesOf placeOf holdsPan
+places-all b width lines marks n z t e = e ∙ places-unmarked panOf (slotsOf b) panOf width lines marks n (λ i l. rw z (getD-replicate n i 0 0 l))
 
 pub firsts-all : (width : ℕ) (lines : List ℕ) (m n : ℕ) → m ≡ n → (t : List ℕ)
     → t ≡ tableOf (λ i. place (hasKey panOf (panOf (partAt width i lines))) (chop width m lines)) m → t ≡ firstsOf width lines n
@@ -167,12 +156,6 @@ pub zeros-fit : (n width k : ℕ) (marks : List ℕ) → marks ≡ replicate n 0
 zeros-fit n width k marks e h =
     let s : length marks ≡ n = rw e (length-replicate n 0) in
     (rw s h, omega arith)
-
--- a block of zeros cut to n
-pub zeros-cut : (n m : ℕ) → n ≤ m → take {A = ℕ} n (replicate m 0) ≡ replicate n 0
-zeros-cut zero m h = refl
-zeros-cut (suc n) zero h = absurd (omega arith)
-zeros-cut (suc n) (suc m) h = ap (λ (s : List ℕ). 0 ∷ s) (zeros-cut n m (omega arith))
 
 -- ---- a file
 

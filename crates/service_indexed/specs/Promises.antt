@@ -3,13 +3,9 @@
 use mathlib.Core.List.{List}
 use Prim.Native.Nat.{ℕ}
 use lib.ListN.{length}
-use Rattle.importer.specs.declared.Imported.{Imported}
 use Rattle.importer.specs.Handed.{Handed}
+use Rattle.importer.specs.Import.{answered}
 use Rattle.indexed.specs.Promises.{ImportIndexed}
-
--- the four numbers as `import_indexed` answers them
-abbrev pub answered : ℕ → ℕ → ℕ → ℕ → Imported
-answered number taken rejected size = record { number = number; taken = taken; rejected = rejected; length = size }
 
 abbrev pub GraftspindleImportIndexed : List ℕ → Handed → List ℕ → ℕ → ℕ → ℕ → ℕ → List ℕ → List ℕ → Type 0
 GraftspindleImportIndexed index f register number taken rejected size b g = ImportIndexed (length index) f register (answered number taken rejected size) b g

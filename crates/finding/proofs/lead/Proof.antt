@@ -1,6 +1,5 @@
 -- The invariant: `found` tells the first of the parts ahead of the rank. Assumes nothing.
 use Prim.Native.Nat.{_-_}
-use native.Mathlib.Omega.{arith}
 use borrow.Author.Needs.{needs}
 use mathlib.Core.Path.{refl}
 use Rattle.finding.specs.laws.Sorted.{Led}

@@ -1,8 +1,6 @@
 -- Assumes nothing.
 use borrow.Author.Needs.{needs}
 use native.Mathlib.Omega.{arith}
-use Rattle.sizes.specs.Sizes.{partsMost}
-use lib.ListN.{length-replicate}
 use Rattle.finding.proofs.Laws.{filled-none}
 use Rattle.finding.proofs.places.Statement.{statement}
 use Rattle.finding.proofs.places.Tie as tie

@@ -1,6 +1,5 @@
 -- Assumes nothing.
 use borrow.Author.Needs.{needs}
-use native.Mathlib.Omega.{arith}
 use Rattle.finding.proofs.places_by.Statement.{statement}
 use Rattle.finding.proofs.places_by.Tie as tie
 

@@ -11,7 +11,7 @@ use Rattle.slots.specs.Slots.{slotsIn}
 use Rattle.stops.specs.Stops.{callStops, fileStops, formStops, indexShort, indexedFormStops, indexedFormStop}
 use Rattle.importer.specs.declared.Imported.{Imported}
 use Rattle.importer.specs.Handed.{Handed}
-use Rattle.importer.specs.Import.{judgedStops, timed, stops, importNumber, refusal, importAnswer, answerAt, registerAfter, registerAt, hgcAfter, hgcAt}
+use Rattle.importer.specs.Import.{judgedStops, timed, stops, importNumber, refusal, importAnswer, registerAfter, hgcAfter}
 use Rattle.importer.specs.Promises.{Import}
 use Rattle.indexed.specs.Indexed.{indexedStops, indexedNumber}
 use Rattle.indexed.specs.Promises.{ImportIndexed}

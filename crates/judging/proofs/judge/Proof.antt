@@ -2,9 +2,9 @@
 use mathlib.Core.Path.{sym, _∙_}
 use borrow.Author.Needs.{needs}
 use lib.ListN.{length}
-use Rattle.theory.specs.laws.Table.{length-cut}
+use Rattle.theory.specs.laws.Table.{cut-is, length-cut}
 use Rattle.sizes.specs.Sizes.{linesMost}
-use Rattle.judging.proofs.Laws.{lines-few, lines-fit, held-few, held-apart, held-indexed, file-judged, file-placed, zeros-cut}
+use Rattle.judging.proofs.Laws.{lines-few, lines-fit, held-few, held-apart, held-indexed, file-judged, file-placed}
 use Rattle.judging.proofs.judge.Statement.{statement}
 use Rattle.judging.proofs.judge.Tie as tie
 
@@ -36,7 +36,7 @@ judge-found-requires c κs =
     let few = lines-few _ sized _ each in
     let held = x .used-part .ensures in (
       lines-fit _ _ (x .before .before .before .body .ensures) _ (x .before .before .width .ensures) _ each,
-      (few, (held-few _ ordered _ held, (held-apart _ ordered _ held, (held-indexed _ ordered _ held _ indexed, (many ∙ sym each, (length-cut (length (y .args .verdicts .now)) linesMost 0 few, zeros-cut (length (y .args .verdicts .now)) linesMost few)))))),
+      (few, (held-few _ ordered _ held, (held-apart _ ordered _ held, (held-indexed _ ordered _ held _ indexed, (many ∙ sym each, (length-cut (length (y .args .verdicts .now)) linesMost 0 few, cut-is (length (y .args .verdicts .now)) linesMost 0 few)))))),
     )
 
 returns : tie.Need-returns

@@ -1,16 +1,14 @@
 -- The first line that has a PAN stands for all that have it. Assumes nothing.
-use mathlib.Core.Path.{_≡_, refl, sym, ap, _∙_}
-use mathlib.Core.Bool.{Bool, true, false, true≢false}
-use mathlib.Core.List.{List, [], _∷_}
-use Prim.Native.Nat.{ℕ, zero, suc, _≤_, _<_}
+use mathlib.Core.Path.{_≡_, sym, ap, _∙_}
+use mathlib.Core.List.{List, []}
+use Prim.Native.Nat.{ℕ, _≤_, _<_}
 use native.Mathlib.Omega.{arith}
-use lib.ListN.{length, getD}
+use lib.ListN.{getD}
 use Rattle.theory.specs.laws.Same.{eqs-true, eqs-refl}
 use Rattle.theory.specs.Parts.{chop, partAt}
 use Rattle.theory.specs.laws.Parts.{length-chop}
 use Rattle.theory.specs.laws.Join.{getD-chop}
-use Rattle.theory.specs.Place.{place, placeOn}
-use Rattle.theory.specs.laws.Place.{place-hit}
+use Rattle.theory.specs.laws.Place.{place-hit, place-before}
 use Rattle.columns.specs.Columns.{panOf}
 use Rattle.slots.specs.Search.{holdsPan, placeOf}
 use Rattle.judging.specs.Places.{placesOf}
@@ -28,17 +26,6 @@ abbrev pub firstsOf : ℕ → List ℕ → ℕ → List ℕ
 firstsOf width lines n = placesOf (chop width n lines) width lines n
 
 -- where one passes, the first that does is not behind it
-place-before : (q : List ℕ → Bool) (xs : List (List ℕ)) (i : ℕ) → i < length xs → q (getD xs i []) ≡ true → place q xs ≤ i
-unfolding place placeOn
-place-before q [] i h e = absurd (omega arith)
-place-before q (x ∷ xs) i h e = go (q x) refl (λ j. place-before q xs j) i h e
-  where
-    go : (b : Bool) → q x ≡ b → ((j : ℕ) → j < length xs → q (getD xs j []) ≡ true → place q xs ≤ j)
-        → (i : ℕ) → i < suc (length xs) → q (getD (x ∷ xs) i []) ≡ true → placeOn b (place q xs) ≤ i
-    go true f ih i h e = omega arith
-    go false f ih zero h e = absurd (true≢false (sym e ∙ f))
-    go false f ih (suc i) h e = omega (arith, ih i (omega arith) e)
-
 module _ (width : ℕ) (lines : List ℕ) (n : ℕ) where
   abbrev ls : List (List ℕ)
   ls = chop width n lines

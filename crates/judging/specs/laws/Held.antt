@@ -6,14 +6,15 @@ use Prim.Native.Nat.{ℕ, suc}
 use native.Mathlib.Omega.{arith}
 use lib.Dec.{ltb}
 use lib.ListN.{length, getD}
-use borrow.Author.Tests.{ltb-true, lt-ltb}
-use Rattle.theory.specs.laws.Truth.{same-truth, or-left, or-right, or-both, or-false}
+use borrow.Author.Tests.{lt-ltb}
+use Rattle.theory.specs.laws.Truth.{or-left, or-right, or-both, or-false}
 use Rattle.theory.specs.Same.{eqs, mem}
 use Rattle.theory.specs.laws.Same.{eqs-true, eqs-sym}
 use Rattle.theory.specs.Walk.{some}
 use Rattle.theory.specs.Distinct.{distinct}
 use Rattle.theory.specs.laws.Distinct.{distinct-head, distinct-tail}
 use Rattle.theory.specs.Place.{place, placeOn}
+use Rattle.theory.specs.laws.Place.{ltb-suc}
 use Rattle.columns.specs.Columns.{panOf}
 use Rattle.slots.specs.Search.{holdsPan, placeOf, ofActor, holdsForeign, heldByAnother}
 
@@ -28,11 +29,6 @@ none-foreign pan who [] h = refl
 none-foreign pan who (r ∷ R) h =
     let e : eqs (panOf r) pan ≡ false = eqs-sym (panOf r) pan ∙ or-left (eqs pan (panOf r)) (mem pan (map panOf R)) h in
     or-both (eqs (panOf r) pan && not (ofActor who r)) (some (holdsForeign pan who) R) (rw e) (none-foreign pan who R (or-right (eqs pan (panOf r)) (mem pan (map panOf R)) h))
-
-ltb-suc : (m n : ℕ) → ltb m n ≡ ltb (suc m) (suc n)
-ltb-suc m n =
-    same-truth (ltb m n) (ltb (suc m) (suc n)) (λ e. lt-ltb (suc m) (suc n) (omega (arith, ltb-true m n e)))
-    (λ e. lt-ltb m n (omega (arith, ltb-true (suc m) (suc n) e)))
 
 pub held-at : (pan who : List ℕ) (R : List (List ℕ)) → distinct (map panOf R) ≡ true → heldByAnother pan who R ≡ foreignAt who R (placeOf pan R)
 unfolding heldByAnother foreignAt placeOf some place placeOn holdsForeign holdsPan

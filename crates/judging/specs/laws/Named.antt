@@ -1,16 +1,17 @@
 -- L12 by flags: the flag at the first line that has a PAN says whether a taken line has it. Assumes nothing.
 use mathlib.Core.Path.{_≡_, refl, sym, _∙_}
 use mathlib.Core.Bool.{Bool, true, false, _&&_, _||_, true≢false}
-use mathlib.Core.List.{List, [], _∷_, _++_}
-use Prim.Native.Nat.{ℕ, zero, suc, _+_, _<_}
+use mathlib.Core.List.{List, [], _∷_}
+use Prim.Native.Nat.{ℕ, _+_, _<_}
 use native.Mathlib.Omega.{arith}
-use lib.ListN.{length, getD, set, replicate, length-set, length-replicate}
+use lib.ListN.{length, getD, set, replicate, length-set, length-replicate, getD-replicate}
 use lib.Seq.{getD-set-same, getD-set-other, take-set-le}
-use Rattle.theory.specs.laws.Truth.{and-none, and-true, or-false, or-assoc}
+use Rattle.theory.specs.laws.Truth.{and-none, and-true, or-false}
 use Rattle.theory.specs.Same.{eqs}
 use Rattle.theory.specs.laws.Same.{eqs-true, eq-eqs}
 use Rattle.theory.specs.Keep.{onto}
 use Rattle.theory.specs.Walk.{some}
+use Rattle.theory.specs.laws.Walk.{some-append}
 use Rattle.theory.specs.Parts.{chop, partAt}
 use Rattle.theory.specs.laws.Parts.{length-chop}
 use Rattle.theory.specs.laws.Join.{chop-snoc}
@@ -28,20 +29,10 @@ pub record Flagged (width : ℕ) (lines : List ℕ) (n : ℕ) (vs : List ℕ) (i
   pub size : length flags ≡ n
   pub flag : (j : ℕ) → j < n → bad (getD flags (firstAt width lines n j) 0) ≡ named width lines vs i (panAt width lines j)
 
-some-append : (q : List ℕ → Bool) (xs ys : List (List ℕ)) → some q (xs ++ ys) ≡ some q xs || some q ys
-unfolding some
-some-append q [] ys = refl
-some-append q (x ∷ xs) ys = rw (some-append q xs ys) (sym (or-assoc (q x) (some q xs) (some q ys)))
-
 some-one : (q : List ℕ → Bool) (b : Bool) (x : List ℕ) → some q (onto b x []) ≡ b && q x
 unfolding some onto
 some-one q true x = or-false (q x)
 some-one q false x = refl
-
-pub zero-at : (n a : ℕ) → getD (replicate {A = ℕ} n 0) a 0 ≡ 0
-zero-at zero a = refl
-zero-at (suc n) zero = refl
-zero-at (suc n) (suc a) = zero-at n a
 
 module _ (width : ℕ) (lines : List ℕ) where
   -- one more line judged
@@ -69,7 +60,7 @@ module _ (width : ℕ) (lines : List ℕ) where
   flagged-start n vs flags e =
       record {
         size = rw e (length-replicate n 0);
-        flag = λ j l. rw (e, zero-at n (firstAt width lines n j)) (sym (nothing (panAt width lines j) vs));
+        flag = λ j l. rw (e, getD-replicate {A = ℕ} n (firstAt width lines n j) 0 0 (omega (arith, first-within width lines n j l))) (sym (nothing (panAt width lines j) vs));
       }
     where
       nothing : (t us : List ℕ) → some (holdsPan t) (pick good us []) ≡ false

@@ -4,8 +4,9 @@ use mathlib.Core.List.{List}
 use Prim.Native.Nat.{ℕ}
 use Rattle.theory.specs.laws.Outcome.{one-outcome}
 use Rattle.importer.specs.Handed.{Handed}
+use Rattle.importer.specs.Import.{answered}
 use Rattle.importer.specs.laws.Outcomes.{import-one}
-use Rattle.service.specs.Promises.{answered, GraftspindleImport, GraftspindleRevision}
+use Rattle.service.specs.Promises.{GraftspindleImport, GraftspindleRevision}
 
 module _ (f : Handed) (register : List ℕ) (n n′ t t′ r r′ l l′ : ℕ) (b b′ g g′ : List ℕ) where
   pub graftspindle-import-one : GraftspindleImport f register n t r l b g → GraftspindleImport f register n′ t′ r′ l′ b′ g′

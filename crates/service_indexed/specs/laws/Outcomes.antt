@@ -4,8 +4,9 @@ use mathlib.Core.List.{List}
 use Prim.Native.Nat.{ℕ}
 use lib.ListN.{length}
 use Rattle.importer.specs.Handed.{Handed}
+use Rattle.importer.specs.Import.{answered}
 use Rattle.indexed.specs.laws.Outcomes.{import-indexed-one}
-use Rattle.service_indexed.specs.Promises.{answered, GraftspindleImportIndexed}
+use Rattle.service_indexed.specs.Promises.{GraftspindleImportIndexed}
 
 module _ (index : List ℕ) (f : Handed) (register : List ℕ) (n n′ t t′ r r′ l l′ : ℕ) (b b′ g g′ : List ℕ) where
   pub graftspindle-import-indexed-one : GraftspindleImportIndexed index f register n t r l b g → GraftspindleImportIndexed index f register n′ t′ r′ l′ b′ g′

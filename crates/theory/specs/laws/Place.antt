@@ -1,8 +1,8 @@
 -- Laws of the place of the first part that passes a test, and of the parts in front of it. Assumes nothing.
 use mathlib.Core.Path.{_≡_, refl, sym, _∙_}
-use mathlib.Core.Bool.{Bool, true, false, not, _||_}
+use mathlib.Core.Bool.{Bool, true, false, not, _||_, true≢false}
 use mathlib.Core.List.{List, [], _∷_}
-use Prim.Native.Nat.{ℕ, suc, _+_, _≤_, _<_}
+use Prim.Native.Nat.{ℕ, zero, suc, _+_, _≤_, _<_}
 use native.Mathlib.Omega.{arith}
 use lib.Dec.{ltb}
 use lib.ListN.{length, take, drop, getD}
@@ -15,6 +15,11 @@ use Rattle.theory.specs.Walk.{some}
 use Rattle.theory.specs.laws.Join.{chop-split}
 use Rattle.theory.specs.Pad.{front, frontOn}
 use Rattle.theory.specs.Place.{placeOn, place}
+
+pub ltb-suc : (m n : ℕ) → ltb m n ≡ ltb (suc m) (suc n)
+ltb-suc m n =
+    same-truth (ltb m n) (ltb (suc m) (suc n)) (λ e. lt-ltb (suc m) (suc n) (omega (arith, ltb-true m n e)))
+    (λ e. lt-ltb m n (omega (arith, ltb-true (suc m) (suc n) e)))
 
 module _ (q : List ℕ → Bool) where
   pub place-most : (xs : List (List ℕ)) → place q xs ≤ length xs
@@ -44,9 +49,18 @@ module _ (q : List ℕ → Bool) where
     where
       on : (b : Bool) (m n : ℕ) → b || ltb m n ≡ ltb (placeOn b m) (suc n)
       on true m n = sym (lt-ltb 0 (suc n) (omega arith))
-      on false m n =
-          same-truth (ltb m n) (ltb (suc m) (suc n)) (λ e. lt-ltb (suc m) (suc n) (omega (arith, ltb-true m n e)))
-          (λ e. lt-ltb m n (omega (arith, ltb-true (suc m) (suc n) e)))
+      on false m n = ltb-suc m n
+
+  -- it is not behind any that passes
+  pub place-before : (xs : List (List ℕ)) (i : ℕ) → i < length xs → q (getD xs i []) ≡ true → place q xs ≤ i
+  unfolding place placeOn
+  place-before [] i h e = absurd (omega arith)
+  place-before (x ∷ xs) i h e = go (q x) refl (λ j. place-before xs j) i h e
+    where
+      go : (b : Bool) → q x ≡ b → ((j : ℕ) → j < length xs → q (getD xs j []) ≡ true → place q xs ≤ j) → (i : ℕ) → i < suc (length xs) → q (getD (x ∷ xs) i []) ≡ true → placeOn b (place q xs) ≤ i
+      go true f ih i h e = omega arith
+      go false f ih zero h e = absurd (true≢false (sym e ∙ f))
+      go false f ih (suc i) h e = omega (arith, ih i (omega arith) e)
 
 -- ---- a walk over n parts of width w
 

@@ -1,7 +1,7 @@
 -- Laws of a test over the parts of a block, each of which passes, or some; and how a walk finds out. Assumes nothing.
 use mathlib.Core.Path.{_≡_, refl, sym, _∙_}
 use mathlib.Core.Bool.{Bool, true, false, _||_}
-use mathlib.Core.List.{List, [], _∷_}
+use mathlib.Core.List.{List, [], _∷_, _++_}
 use Prim.Native.Nat.{ℕ, _+_, _≤_, _<_}
 use Rattle.theory.specs.laws.Truth.{and-left, and-right, or-assoc, or-false}
 use Rattle.theory.specs.Each.{Each, none, more}
@@ -19,6 +19,11 @@ pub passes-each : (q : List ℕ → Bool) {xs : List (List ℕ)} → Each (λ x.
 unfolding each
 passes-each q none = refl
 passes-each q (more h hs) = rw h (passes-each q hs)
+
+pub some-append : (q : List ℕ → Bool) (xs ys : List (List ℕ)) → some q (xs ++ ys) ≡ some q xs || some q ys
+unfolding some
+some-append q [] ys = refl
+some-append q (x ∷ xs) ys = rw (some-append q xs ys) (sym (or-assoc (q x) (some q xs) (some q ys)))
 
 -- what is left decides
 unfoldable pub EachFrom : (List ℕ → Bool) → ℕ → ℕ → List ℕ → ℕ → Type 0

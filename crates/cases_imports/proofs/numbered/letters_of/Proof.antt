@@ -1,7 +1,7 @@
 -- Assumes nothing.
 use lib.ListN.{length}
 use mathlib.Core.Path.{_≡_}
-use Prim.Native.Nat.{_≤_, _-_}
+use Prim.Native.Nat.{_-_}
 use borrow.Author.Needs.{needs}
 use Rattle.cases_imports.proofs.numbered.letters_of.Statement.{statement}
 use Rattle.cases_imports.proofs.numbered.letters_of.Tie as tie
