@@ -10,7 +10,7 @@ use vectors::SAMPLES;
 mod blocks;
 mod each;
 mod found;
-mod imports;
+mod importing;
 mod many;
 mod numbered;
 mod pairs;
@@ -32,10 +32,10 @@ fn of_swept(tag: &[u8], f: &[u8], samples: &[u8; SAMPLES], aloud: bool) -> u64 {
 
 fn of_local(tag: &[u8], f: &[u8], samples: &[u8; SAMPLES], aloud: bool) -> u64 {
     if texts::same(tag, b"local   ") {
-        return imports::of_local(f, samples, aloud);
+        return importing::of_local(f, samples, aloud);
     }
     if texts::same(tag, b"indexed ") {
-        return imports::of_indexed(f, samples, aloud);
+        return importing::of_indexed(f, samples, aloud);
     }
     if texts::same(tag, b"utc     ") {
         return pairs::of_utc(f, samples, aloud);
@@ -56,7 +56,7 @@ fn of_pair(tag: &[u8], f: &[u8], samples: &[u8; SAMPLES], aloud: bool) -> u64 {
 // The first number of a vector's answer; aloud, all of it is told.
 pub fn of_block(tag: &[u8], f: &[u8], samples: &[u8; SAMPLES], aloud: bool) -> u64 {
     if texts::same(tag, b"import  ") {
-        return imports::of_import(f, samples, aloud);
+        return importing::of_import(f, samples, aloud);
     }
     if texts::same(tag, b"many    ") {
         return many::of_lines(f, samples, aloud);

@@ -10,7 +10,7 @@ ghost use Rattle.sizes.specs.Sizes.{slotLength};
 use crate::blocks::at_most;
 use crate::blocks::number_in;
 use crate::blocks::sent_length;
-use importer::Imported;
+use imports::Imported;
 use libc::STDOUT_FILENO;
 use sizes::FOOTER;
 use sizes::HEADER;

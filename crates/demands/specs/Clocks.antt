@@ -18,10 +18,10 @@ use Rattle.times.specs.laws.Back.{at-real, at-seconds, at-its-seconds}
 use Rattle.offsets.specs.Offset.{local, utc, receptionHolds, utcHolds}
 use Rattle.offsets.specs.laws.Shift.{local-back, local-utc}
 use Rattle.receipts.specs.Receipt.{receptionOf, receiptHolds}
-use Rattle.importer.specs.declared.Imported.{Imported}
-use Rattle.importer.specs.Handed.{Handed, at}
-use Rattle.importer.specs.Shown.{answerAs, registerAs, hgcAs}
-use Rattle.importer.specs.Promises.{Import}
+use Rattle.imports.specs.declared.Imported.{Imported}
+use Rattle.imports.specs.Handed.{Handed, at}
+use Rattle.imports.specs.Shown.{answerAs, registerAs, hgcAs}
+use Rattle.imports.specs.Promises.{Import}
 use Rattle.provider.specs.declared.Counted.{Counted}
 use Rattle.updating.specs.Sent.{Sent}
 use Rattle.updating.specs.Shown as updates

@@ -7,16 +7,16 @@ use Rattle.theory.specs.First.{Decided}
 use Rattle.lookups.specs.Lookup.{panRules, plateRules}
 use Rattle.lookups.specs.Promises.{ByPan, ByPlate}
 use Rattle.lookups.specs.laws.Found.{by-pan-refused, by-plate-refused}
-use Rattle.importer.specs.declared.Imported.{Imported}
-use Rattle.importer.specs.Import.{stops}
-use Rattle.importer.specs.Promises.{Import}
+use Rattle.imports.specs.declared.Imported.{Imported}
+use Rattle.imports.specs.Import.{stops}
+use Rattle.imports.specs.Promises.{Import}
 use Rattle.provider.specs.declared.Counted.{Counted}
 use Rattle.reading.specs.ReadBack.{hgvStops, blockStops}
 use Rattle.updating.specs.Sent.{Sent}
 use Rattle.updating.specs.Update.{copyStops, receiptStops}
 use Rattle.reading.specs.Promises.{ReadBack}
 use Rattle.updating.specs.Promises.{Update}
-use Rattle.importer.specs.Handed.{Handed}
+use Rattle.imports.specs.Handed.{Handed}
 use Rattle.sweeping.specs.declared.Swept.{Swept}
 use Rattle.sweeping.specs.Sweep.{sweepStops}
 use Rattle.sweeping.specs.Promises.{Sweep}

@@ -25,11 +25,11 @@ use Rattle.verdicts.specs.Verdict.{verdictRules, verdictsOf}
 use Rattle.offsets.specs.Offset.{local}
 use Rattle.hgc.specs.Confirmation.{confirmation}
 use Rattle.holdings.specs.Holdings.{others, holdings}
-use Rattle.importer.specs.declared.Imported.{Imported}
+use Rattle.imports.specs.declared.Imported.{Imported}
 use Rattle.provider.specs.declared.Counted.{Counted}
 use Rattle.reading.specs.Promises.{ReadBack}
-use Rattle.importer.specs.Handed.{Handed}
-use Rattle.importer.specs.Promises.{Import}
+use Rattle.imports.specs.Handed.{Handed}
+use Rattle.imports.specs.Promises.{Import}
 use Rattle.demands.specs.Verdicts.{takenBefore, Verdicts, Unbroken}
 use Rattle.demands.specs.laws.Judging.{verdicts-there, verdicts-only, unbroken, none-fits}
 use Rattle.demands.specs.laws.Exact as laws

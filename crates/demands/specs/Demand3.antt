@@ -7,10 +7,10 @@ use Rattle.theory.specs.Join.{flat}
 use Rattle.theory.specs.Pad.{pad}
 use Rattle.sizes.specs.Sizes.{slotLength, slotsMost}
 use Rattle.slots.specs.Slots.{records}
-use Rattle.importer.specs.declared.Imported.{Imported}
+use Rattle.imports.specs.declared.Imported.{Imported}
 use Rattle.demands.specs.Own.{own}
-use Rattle.importer.specs.Handed.{Handed}
-use Rattle.importer.specs.Promises.{Import}
+use Rattle.imports.specs.Handed.{Handed}
+use Rattle.imports.specs.Promises.{Import}
 use Rattle.sweeping.specs.declared.Swept.{Swept}
 use Rattle.sweeping.specs.Promises.{Sweep}
 use Rattle.demands.specs.History.{Entry, Answer, Event, sweeping, his, entries, answers, empty, _▸_, Ours, start, swept, idle, Replay, start}

@@ -7,10 +7,10 @@ use Rattle.theory.specs.First.{_if_, Decided}
 use Rattle.slots.specs.Slots.{slotsIn}
 use Rattle.offsets.specs.Offset.{receptionHolds}
 use Rattle.stops.specs.Stops.{callStops, fileStops, indexShort}
-use Rattle.importer.specs.declared.Imported.{Imported}
-use Rattle.importer.specs.Handed.{Handed}
-use Rattle.importer.specs.Import.{judgedStops}
-use Rattle.importer.specs.Promises.{Import}
+use Rattle.imports.specs.declared.Imported.{Imported}
+use Rattle.imports.specs.Handed.{Handed}
+use Rattle.imports.specs.Import.{judgedStops}
+use Rattle.imports.specs.Promises.{Import}
 use Rattle.indexed.specs.Promises.{ImportIndexed}
 use Rattle.demands.specs.History.{Event, Ours}
 use Rattle.demands.specs.laws.Indexed as laws

@@ -16,9 +16,9 @@ use Rattle.hgv.specs.Layout.{linesOf}
 use Rattle.slots.specs.Slots.{records}
 use Rattle.register.specs.Register.{inOrder}
 use Rattle.lookups.specs.Promises.{ByPan, ByPlate}
-use Rattle.importer.specs.declared.Imported.{Imported}
-use Rattle.importer.specs.Handed.{Handed}
-use Rattle.importer.specs.Promises.{Import}
+use Rattle.imports.specs.declared.Imported.{Imported}
+use Rattle.imports.specs.Handed.{Handed}
+use Rattle.imports.specs.Promises.{Import}
 use Rattle.offsets.specs.Offset.{utc}
 use Rattle.receipts.specs.Receipt.{listOf, receptionOf, takenBy}
 use Rattle.provider.specs.declared.Counted.{Counted}

@@ -33,7 +33,7 @@ use Rattle.hgc.specs.Confirmation.{confirmation}
 use Rattle.stops.specs.Stops.{formStop}
 use Rattle.offsets.specs.Offset.{local, receptionHolds}
 use Rattle.receipts.specs.Receipt.{takenBy, receiptHolds}
-use Rattle.importer.specs.Handed.{Handed}
+use Rattle.imports.specs.Handed.{Handed}
 use Rattle.provider.specs.declared.Counted.{Counted}
 use Rattle.updating.specs.Sent.{sent}
 use Rattle.sweeping.specs.declared.Swept.{Swept}

@@ -22,9 +22,9 @@ use Rattle.sizes.specs.Sizes.{slotLength}
 use Rattle.slots.specs.Slots.{records}
 use Rattle.register.specs.Register.{inOrder}
 use Rattle.receipts.specs.Receipt.{receiptHolds}
-use Rattle.importer.specs.declared.Imported.{Imported}
-use Rattle.importer.specs.Handed.{Handed}
-use Rattle.importer.specs.Promises.{Import}
+use Rattle.imports.specs.declared.Imported.{Imported}
+use Rattle.imports.specs.Handed.{Handed}
+use Rattle.imports.specs.Promises.{Import}
 use Rattle.provider.specs.declared.Counted.{Counted}
 use Rattle.reading.specs.Promises.{ReadBack}
 use Rattle.demands.specs.Own.{own}

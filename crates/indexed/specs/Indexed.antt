@@ -3,8 +3,8 @@ use Prim.Native.Nat.{ℕ}
 use mathlib.Core.List.{List, _++_}
 use Rattle.theory.specs.First.{Rule, first}
 use Rattle.stops.specs.Stops.{indexedFormStops}
-use Rattle.importer.specs.Handed.{Handed}
-use Rattle.importer.specs.Import.{judgedStops, timed}
+use Rattle.imports.specs.Handed.{Handed}
+use Rattle.imports.specs.Import.{judgedStops, timed}
 
 -- all stops, in their order: 21 to 24, 36, 25 to 32, 35, 33, 34
 unfoldable pub indexedStops : ℕ → Handed → List ℕ → List Rule

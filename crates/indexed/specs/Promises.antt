@@ -2,9 +2,9 @@
 use mathlib.Core.Path.{_≡_}
 use mathlib.Core.List.{List}
 use Prim.Native.Nat.{ℕ}
-use Rattle.importer.specs.declared.Imported.{Imported}
-use Rattle.importer.specs.Handed.{Handed}
-use Rattle.importer.specs.Import.{answerAt, registerAt, hgcAt}
+use Rattle.imports.specs.declared.Imported.{Imported}
+use Rattle.imports.specs.Handed.{Handed}
+use Rattle.imports.specs.Import.{answerAt, registerAt, hgcAt}
 use Rattle.indexed.specs.Indexed.{indexedNumber}
 
 -- of what is handed over beside the register, and an index of k numbers in any state: the answer, the register and the buffer after it.

@@ -8,10 +8,10 @@ ghost use Rattle.offsets.specs.Ahead.{offsetOf};
 ghost use Rattle.stops.specs.Clear.{Clear};
 ghost use Rattle.hgv.specs.Layout.{linesIn};
 ghost use Rattle.slots.specs.Slots.{slotsIn};
-ghost use Rattle.importer.specs.Handed.{handed};
-ghost use Rattle.importer.specs.Promises.{Import};
+ghost use Rattle.imports.specs.Handed.{handed};
+ghost use Rattle.imports.specs.Promises.{Import};
 ghost use Rattle.indexed.specs.Promises.{ImportIndexed};
-use importer::Imported;
+use imports::Imported;
 
 // The import of a file whose form is right; `verdicts` and `found` have a number for each of its lines.
 fn import_lines(
@@ -33,7 +33,7 @@ fn import_lines(
     ensures { λ r. ⌜ Import (handed mode (now (reception .entry)) (offsetOf ahead) (now (rows .entry)) (now (hgv .entry)) (now (hgc .entry))) (now (register .entry)) r (now (register .exit)) (now (hgc .exit)) ⌝ }
 {
     judging::judge(hgv, rows, register, index, verdicts, found);
-    importer::import_judged(
+    imports::import_judged(
         mode,
         reception,
         ahead,
@@ -62,7 +62,7 @@ pub fn import_indexed(
     let timed = offsets::has_local(reception, offset);
     let form = stops::indexed_form_stop(mode, timed, register, rows, index.len(), hgv);
     if form != 0 {
-        return importer::refused(form);
+        return imports::refused(form);
     }
     let ahead = offsets::ahead(offset);
     let mut verdicts = [0u8; sizes::LINES_MOST];

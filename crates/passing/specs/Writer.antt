@@ -17,10 +17,10 @@ use Rattle.header.specs.Header.{sender, receiver, listSequence, previous, count
 use Rattle.slots.specs.Slots.{slotsIn, records}
 use Rattle.slots.specs.Search.{heldByAnother}
 use Rattle.register.specs.Register.{inOrder}
-use Rattle.importer.specs.declared.Imported.{Imported}
+use Rattle.imports.specs.declared.Imported.{Imported}
 use Rattle.offsets.specs.Offset.{receptionHolds}
-use Rattle.importer.specs.Handed.{handed}
-use Rattle.importer.specs.Promises.{Import}
+use Rattle.imports.specs.Handed.{handed}
+use Rattle.imports.specs.Promises.{Import}
 use Rattle.demands.specs.Verdicts.{Verdicts}
 use Rattle.accounts.specs.Account as account
 use Rattle.writer.specs.declared.Written.{Written}

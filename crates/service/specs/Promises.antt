@@ -3,9 +3,9 @@
 use mathlib.Core.Path.{_≡_}
 use mathlib.Core.List.{List}
 use Prim.Native.Nat.{ℕ}
-use Rattle.importer.specs.Handed.{Handed}
-use Rattle.importer.specs.Import.{answered}
-use Rattle.importer.specs.Promises.{Import}
+use Rattle.imports.specs.Handed.{Handed}
+use Rattle.imports.specs.Import.{answered}
+use Rattle.imports.specs.Promises.{Import}
 
 abbrev pub GraftspindleImport : Handed → List ℕ → ℕ → ℕ → ℕ → ℕ → List ℕ → List ℕ → Type 0
 GraftspindleImport f register number taken rejected size b g = Import f register (answered number taken rejected size) b g

@@ -1,6 +1,6 @@
 // What Rust calls, on numbers and byte slices: the import. It hands on to the crate that does the work, and writes every
 // number that it is lent, zero at a stop. And the revision of all that Rust calls.
-ghost use Rattle.importer.specs.Handed.{handed};
+ghost use Rattle.imports.specs.Handed.{handed};
 ghost use Rattle.service.specs.Promises.{GraftspindleImport, GraftspindleRevision};
 
 // The import of an HGV: 0 or the number of a stop; how many lines were taken and rejected, and the HGC's length.

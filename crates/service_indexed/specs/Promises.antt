@@ -3,8 +3,8 @@
 use mathlib.Core.List.{List}
 use Prim.Native.Nat.{ℕ}
 use lib.ListN.{length}
-use Rattle.importer.specs.Handed.{Handed}
-use Rattle.importer.specs.Import.{answered}
+use Rattle.imports.specs.Handed.{Handed}
+use Rattle.imports.specs.Import.{answered}
 use Rattle.indexed.specs.Promises.{ImportIndexed}
 
 abbrev pub GraftspindleImportIndexed : List ℕ → Handed → List ℕ → ℕ → ℕ → ℕ → ℕ → List ℕ → List ℕ → Type 0

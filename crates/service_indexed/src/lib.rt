@@ -1,6 +1,6 @@
 // What Rust calls, on numbers and slices: the import by an index that the caller lends. It hands on to the crate that does the
 // work, and writes every number that it is lent, zero at a stop.
-ghost use Rattle.importer.specs.Handed.{handed};
+ghost use Rattle.imports.specs.Handed.{handed};
 ghost use Rattle.service_indexed.specs.Promises.{GraftspindleImportIndexed};
 
 // The import of an HGV: 0 or the number of a stop; how many lines were taken and rejected, and the HGC's length.

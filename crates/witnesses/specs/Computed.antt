@@ -55,10 +55,10 @@ use Rattle.holdings.specs.Room.{usedAfter}
 use Rattle.thinness.specs.Thin.{thin}
 use Rattle.stops.specs.Stops.{modeHolds, fullWith220001, addressed, callStops, fileStops, formStops, formStop}
 use Rattle.theory.specs.Stopped.{unlessStopped}
-use Rattle.importer.specs.Handed.{Handed}
-use Rattle.importer.specs.Import.{judged, following, refusal, registerWritten}
-use Rattle.importer.specs.Shown.{confirmedAs, stopsAs, numberAs, answerAs, registerAs, hgcAs}
-use Rattle.importer.specs.declared.Imported.{Imported}
+use Rattle.imports.specs.Handed.{Handed}
+use Rattle.imports.specs.Import.{judged, following, refusal, registerWritten}
+use Rattle.imports.specs.Shown.{confirmedAs, stopsAs, numberAs, answerAs, registerAs, hgcAs}
+use Rattle.imports.specs.declared.Imported.{Imported}
 use Rattle.pairing.specs.Pairing.{isTaken, marksFrom, marks, left}
 use Rattle.receipts.specs.Receipt.{answersIn, behindHead, answersOf, lengthForm, headForm, answerForm, formHolds, namesHold, outcomeHolds, reasonHolds, textsOf, copiesOf, marksOf, takenBy, sameTexts, copiesHold, countsHold, lineHolds, takenHold, saysHold, linesHold, receptionOf, receiptHolds}
 use Rattle.provider.specs.declared.Counted.{Counted}

@@ -7,10 +7,10 @@ use Prim.Native.Nat.{ℕ}
 use lib.ListN.{take}
 use Rattle.theory.specs.Same.{eqs}
 use Rattle.theory.specs.laws.Same.{eqs-refl}
-use Rattle.importer.specs.declared.Imported.{Imported}
-use Rattle.importer.specs.Promises.{Import}
-use Rattle.importer.specs.laws.Shown.{zero-as}
-use Rattle.importer.specs.Handed.{Handed}
+use Rattle.imports.specs.declared.Imported.{Imported}
+use Rattle.imports.specs.Promises.{Import}
+use Rattle.imports.specs.laws.Shown.{zero-as}
+use Rattle.imports.specs.Handed.{Handed}
 use Rattle.demands.specs.History.{empty}
 use Rattle.witnesses.specs.Files as files
 use Rattle.witnesses.specs.Computed.{with, answerTo, after, bufferAfter, held₁, held₂, Single, computed}

@@ -22,10 +22,10 @@ use Rattle.offsets.specs.laws.Shift.{shown-is, local-back, local-utc}
 use Rattle.receipts.specs.Receipt.{receptionOf, receiptHolds}
 use Rattle.provider.specs.declared.Counted.{Counted}
 use Rattle.slots.specs.Slots.{records}
-use Rattle.importer.specs.declared.Imported.{Imported}
-use Rattle.importer.specs.Promises.{Import}
-use Rattle.importer.specs.Shown.{answerAs, registerAs, hgcAs}
-use Rattle.importer.specs.laws.Shown.{zero-as, shown-as}
+use Rattle.imports.specs.declared.Imported.{Imported}
+use Rattle.imports.specs.Promises.{Import}
+use Rattle.imports.specs.Shown.{answerAs, registerAs, hgcAs}
+use Rattle.imports.specs.laws.Shown.{zero-as, shown-as}
 use Rattle.updating.specs.Sent.{Sent, sent}
 use Rattle.updating.specs.Promises.{Update}
 use Rattle.updating.specs.Shown as updates
@@ -34,7 +34,7 @@ use Rattle.updating.specs.Update.{sentHolds}
 use Rattle.updating.specs.laws.Shown as update-laws
 use Rattle.updating.specs.laws.Outcomes.{update-one}
 use Rattle.demands.specs.Own.{own}
-use Rattle.importer.specs.Handed.{Handed}
+use Rattle.imports.specs.Handed.{Handed}
 use Rattle.sweeping.specs.declared.Swept.{Swept}
 use Rattle.sweeping.specs.Sweep.{sweepAnswer, registerSwept}
 use Rattle.sweeping.specs.Promises.{Sweep}

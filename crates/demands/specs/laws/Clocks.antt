@@ -15,13 +15,13 @@ use Rattle.hgc.specs.Confirmation.{head, confirmation}
 use Rattle.offsets.specs.Offset.{local, utc, receptionHolds}
 use Rattle.offsets.specs.laws.Shift.{local-real, local-minutes, local-back}
 use Rattle.receipts.specs.Receipt.{receptionOf, receiptHolds}
-use Rattle.importer.specs.declared.Imported.{Imported}
-use Rattle.importer.specs.Handed.{Handed, at}
-use Rattle.importer.specs.Import.{following, registerWritten}
-use Rattle.importer.specs.Shown.{confirmedAs, stopsAs, numberAs, answerAs, registerAs, hgcAs}
-use Rattle.importer.specs.Promises.{Import}
-use Rattle.importer.specs.laws.Numbers.{Formed, accepted-clear}
-use Rattle.importer.specs.laws.Shown.{shown-as, zero-as}
+use Rattle.imports.specs.declared.Imported.{Imported}
+use Rattle.imports.specs.Handed.{Handed, at}
+use Rattle.imports.specs.Import.{following, registerWritten}
+use Rattle.imports.specs.Shown.{confirmedAs, stopsAs, numberAs, answerAs, registerAs, hgcAs}
+use Rattle.imports.specs.Promises.{Import}
+use Rattle.imports.specs.laws.Numbers.{Formed, accepted-clear}
+use Rattle.imports.specs.laws.Shown.{shown-as, zero-as}
 use Rattle.provider.specs.declared.Counted.{Counted}
 use Rattle.updating.specs.Sent.{Sent}
 use Rattle.updating.specs.Shown as updates

@@ -27,16 +27,16 @@ use Rattle.holdings.specs.Holdings.{others, holdings}
 use Rattle.sizes.specs.Modes.{isFull}
 use Rattle.holdings.specs.laws.Storing.{all-grows}
 use Rattle.upkeep.specs.Holds.{Holds}
-use Rattle.importer.specs.declared.Imported.{Imported}
-use Rattle.importer.specs.Import.{judged, fileStamp, following, confirmed, importNumber, success, hgcWritten, shown}
-use Rattle.importer.specs.Promises.{Import}
-use Rattle.importer.specs.laws.Follows.{adds-up, holds-following, others-same, places-same}
+use Rattle.imports.specs.declared.Imported.{Imported}
+use Rattle.imports.specs.Import.{judged, fileStamp, following, confirmed, importNumber, success, hgcWritten, shown}
+use Rattle.imports.specs.Promises.{Import}
+use Rattle.imports.specs.laws.Follows.{adds-up, holds-following, others-same, places-same}
 use Rattle.provider.specs.declared.Counted.{Counted}
 use Rattle.reading.specs.Promises.{ReadBack}
 use Rattle.weights.specs.Weights.{weightHolds}
 use Rattle.demands.specs.Weighed.{ownCounts}
 use Rattle.demands.specs.laws.Weighed.{judged-today, accepted-today, read-under}
-use Rattle.importer.specs.Handed.{Handed}
+use Rattle.imports.specs.Handed.{Handed}
 use Rattle.demands.specs.laws.Imports.{number-0, done-is, register-is, hgc-is}
 use Rattle.demands.specs.Verdicts.{Verdicts}
 use Rattle.demands.specs.laws.Judging.{judged-is}

@@ -8,11 +8,11 @@ use Rattle.theory.specs.laws.First.{decided, numbered, numberedTo, otherwise, f
 use Rattle.theory.specs.laws.Stopped.{number-kept}
 use Rattle.stops.specs.Stops.{callStops, fileStops, formStops, formStop}
 use Rattle.stops.specs.laws.Clear.{clear}
-use Rattle.importer.specs.declared.Imported.{Imported}
-use Rattle.importer.specs.Import.{judgedStops, stops, importNumber, refusal, success, registerWritten, hgcWritten, importAnswer, timed}
-use Rattle.importer.specs.Promises.{Import}
-use Rattle.importer.specs.laws.Numbers.{Formed, stop-answer, stop-register, stop-hgc, done-answer, done-register, done-hgc}
-use Rattle.importer.specs.Handed.{Handed}
+use Rattle.imports.specs.declared.Imported.{Imported}
+use Rattle.imports.specs.Import.{judgedStops, stops, importNumber, refusal, success, registerWritten, hgcWritten, importAnswer, timed}
+use Rattle.imports.specs.Promises.{Import}
+use Rattle.imports.specs.laws.Numbers.{Formed, stop-answer, stop-register, stop-hgc, done-answer, done-register, done-hgc}
+use Rattle.imports.specs.Handed.{Handed}
 
 module _ (f : Handed) (register : List ℕ) (r : Imported) (b g : List ℕ) (o : Import f register r b g) where
   -- the number answered is that of the first stop that holds

@@ -11,11 +11,11 @@ use Rattle.theory.specs.laws.First.{decided, numbered, numberedBy, first-passes
 use Rattle.theory.specs.laws.Stopped.{at-stop, number-kept}
 use Rattle.slots.specs.Slots.{slotsIn}
 use Rattle.stops.specs.Stops.{callStops, fileStops, formStops, indexShort, indexedFormStops}
-use Rattle.importer.specs.declared.Imported.{Imported}
-use Rattle.importer.specs.Handed.{Handed}
-use Rattle.importer.specs.Import.{judgedStops, stops, timed, importNumber, refusal, success}
-use Rattle.importer.specs.Promises.{Import}
-use Rattle.importer.specs.laws.Outcomes.{import-one}
+use Rattle.imports.specs.declared.Imported.{Imported}
+use Rattle.imports.specs.Handed.{Handed}
+use Rattle.imports.specs.Import.{judgedStops, stops, timed, importNumber, refusal, success}
+use Rattle.imports.specs.Promises.{Import}
+use Rattle.imports.specs.laws.Outcomes.{import-one}
 use Rattle.indexed.specs.Indexed.{indexedStops, indexedNumber}
 use Rattle.indexed.specs.Promises.{ImportIndexed}
 use Rattle.indexed.specs.laws.Same.{as-import, number-short, number-long}

@@ -13,7 +13,7 @@ use Rattle.header.specs.Header.{sender}
 use Rattle.hgv.specs.Layout.{linesOf}
 use Rattle.slots.specs.Slots.{records}
 use Rattle.verdicts.specs.Verdict.{ownRules, verdictRules, verdict, verdictsOf, fileVerdicts}
-use Rattle.importer.specs.Import.{judged}
+use Rattle.imports.specs.Import.{judged}
 use Rattle.verdicts.specs.laws.Verdict.{own-is, verdict-is, taken-faultless, taken-free}
 use Rattle.demands.specs.Verdicts.{Verdicts, Unbroken}
 

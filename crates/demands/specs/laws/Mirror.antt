@@ -20,15 +20,15 @@ use Rattle.holdings.specs.Holdings.{others, holdings}
 use Rattle.upkeep.specs.Holds.{Holds}
 use Rattle.applying.specs.Fit.{Fit}
 use Rattle.applying.specs.laws.Follows.{follows}
-use Rattle.importer.specs.Handed.{Handed}
-use Rattle.importer.specs.Import.{fileStamp, shown}
+use Rattle.imports.specs.Handed.{Handed}
+use Rattle.imports.specs.Import.{fileStamp, shown}
 use Rattle.provider.specs.laws.Held.{list-held}
 use Rattle.updating.specs.Sent.{Sent, sent}
 use Rattle.offsets.specs.laws.Shift.{local-back, local-utc}
 use Rattle.updating.specs.Update.{ownHolds, copyStops, copyFollowing, receiptStops, updateNumber, updateAnswer, copyWritten, copyAfter, sentHolds}
 use Rattle.demands.specs.Own.{own}
 use Rattle.demands.specs.laws.Own.{own-holdings, fit-own, own-stays}
-use Rattle.importer.specs.laws.Numbers.{Formed}
+use Rattle.imports.specs.laws.Numbers.{Formed}
 use Rattle.hgc.specs.Confirmation.{confirmation}
 use Rattle.theory.specs.Join.{flat}
 use Rattle.theory.specs.Pad.{pad}

@@ -12,11 +12,11 @@ use Rattle.theory.specs.laws.Stopped.{at-success}
 use Rattle.hgv.specs.Layout.{linesIn}
 use Rattle.claims.specs.Claims.{receiverHolds}
 use Rattle.stops.specs.Stops.{addressed}
-use Rattle.importer.specs.Import.{shown}
-use Rattle.importer.specs.Handed.{Handed}
+use Rattle.imports.specs.Import.{shown}
+use Rattle.imports.specs.Handed.{Handed}
 use Rattle.provider.specs.Answer.{successCounts}
 use Rattle.reading.specs.ReadBack.{hgvStops, blockStops, readNumber, readAnswer, verdictsWritten, verdictsAfter}
-use Rattle.importer.specs.laws.Numbers.{Formed}
+use Rattle.imports.specs.laws.Numbers.{Formed}
 use Rattle.hgc.specs.Confirmation.{confirmation}
 use Rattle.demands.specs.Weighed.{ownCounts}
 use Rattle.demands.specs.laws.Sound.{Sound}

@@ -23,14 +23,14 @@ use Rattle.sizes.specs.Sizes.{linesMost}
 use Rattle.hgv.specs.laws.Layout.{width-has, length-lines, each-line, lines-most}
 use Rattle.hgc.specs.Confirmation.{answers}
 use Rattle.hgc.specs.laws.Fields.{reasons-answers}
-use Rattle.importer.specs.Handed.{Handed}
+use Rattle.imports.specs.Handed.{Handed}
 use Rattle.pairing.specs.laws.Pairing.{mark, pick-marked, told-is}
 use Rattle.pairing.specs.laws.Firsts.{marks-is, left-is}
 use Rattle.receipts.specs.Receipt.{answersIn, answersOf, receptionOf, takenOf, rejectedOf, reasonOf, reasonHolds, textsOf, marksOf, takenBy, copiesHold, countsHold, lineHolds, takenHold, saysHold, linesHold, receiptHolds}
 use Rattle.reading.specs.ReadBack.{reasonsOf, readVerdicts}
 use Rattle.receipts.specs.laws.Written.{same-texts, line-holds, each-answered, answers-in, answers-of, taken-of, rejected-of, form-holds, names-hold, outcome-holds, reception-is, copies-of}
-use Rattle.importer.specs.Import.{shown}
-use Rattle.importer.specs.laws.Numbers.{Formed, formed-shown}
+use Rattle.imports.specs.Import.{shown}
+use Rattle.imports.specs.laws.Numbers.{Formed, formed-shown}
 use Rattle.verdicts.specs.Verdict.{taken}
 use Rattle.hgc.specs.Confirmation.{confirmation}
 use Rattle.demands.specs.laws.Reasons.{reason-holds}

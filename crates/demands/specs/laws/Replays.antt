@@ -22,15 +22,15 @@ use Rattle.slots.specs.Slots.{slotsIn, records}
 use Rattle.register.specs.Register.{inOrder}
 use Rattle.register.specs.laws.Register.{records-pad, order-pad, slots-pad}
 use Rattle.upkeep.specs.Holds.{Holds}
-use Rattle.importer.specs.declared.Imported.{Imported}
-use Rattle.importer.specs.Promises.{Import}
+use Rattle.imports.specs.declared.Imported.{Imported}
+use Rattle.imports.specs.Promises.{Import}
 use Rattle.provider.specs.declared.Counted.{Counted}
 use Rattle.updating.specs.Sent.{sent}
 use Rattle.updating.specs.Promises.{Update}
 use Rattle.updating.specs.laws.Outcomes.{update-one}
 use Rattle.demands.specs.Own.{own}
 use Rattle.demands.specs.laws.Mirror.{Mirrors, after-holds, another-mirrors, update-answer, update-mirrors}
-use Rattle.importer.specs.Handed.{Handed}
+use Rattle.imports.specs.Handed.{Handed}
 use Rattle.sweeping.specs.declared.Swept.{Swept}
 use Rattle.sweeping.specs.Promises.{Sweep}
 use Rattle.sweeping.specs.laws.Outcomes.{sweep-one}

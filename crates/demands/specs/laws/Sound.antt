@@ -37,9 +37,9 @@ use Rattle.slots.specs.Search.{holdsPan, ofActor, heldByAnother}
 use Rattle.verdicts.specs.Verdict.{taken}
 use Rattle.upkeep.specs.laws.Makes.{each-makes}
 use Rattle.applying.specs.Fit.{Fit}
-use Rattle.importer.specs.Handed.{Handed}
-use Rattle.importer.specs.Import.{fileStamp}
-use Rattle.importer.specs.laws.Numbers.{Formed, formed-received}
+use Rattle.imports.specs.Handed.{Handed}
+use Rattle.imports.specs.Import.{fileStamp}
+use Rattle.imports.specs.laws.Numbers.{Formed, formed-received}
 use Rattle.pairing.specs.laws.Faithful.{Judges, lines-first}
 use Rattle.receipts.specs.Receipt.{textsOf}
 use Rattle.demands.specs.Weighed.{L10Under, rulesUnder, verdictUnder, judgedUnder, followingBy}

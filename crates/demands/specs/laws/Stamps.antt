@@ -30,13 +30,13 @@ use Rattle.register.specs.Register.{inOrder}
 use Rattle.register.specs.laws.Register.{ordered, used-stamped}
 use Rattle.verdicts.specs.Verdict.{taken}
 use Rattle.applying.specs.laws.Touched as applying
-use Rattle.importer.specs.declared.Imported.{Imported}
-use Rattle.importer.specs.Handed.{Handed}
-use Rattle.importer.specs.Import.{judged, fileStamp, following, importNumber}
-use Rattle.importer.specs.Promises.{Import}
-use Rattle.importer.specs.laws.Numbers.{Formed, accepted-clear, formed-received}
-use Rattle.importer.specs.laws.Accepted.{lines-storable}
-use Rattle.importer.specs.laws.Follows.{fit}
+use Rattle.imports.specs.declared.Imported.{Imported}
+use Rattle.imports.specs.Handed.{Handed}
+use Rattle.imports.specs.Import.{judged, fileStamp, following, importNumber}
+use Rattle.imports.specs.Promises.{Import}
+use Rattle.imports.specs.laws.Numbers.{Formed, accepted-clear, formed-received}
+use Rattle.imports.specs.laws.Accepted.{lines-storable}
+use Rattle.imports.specs.laws.Follows.{fit}
 use Rattle.lookups.specs.Lookup.{panNumber, panPlace, plateNumber, platePlace}
 use Rattle.lookups.specs.Promises.{ByPan, ByPlate}
 use Rattle.lookups.specs.laws.Found.{pan-fits, pan-part, plate-fits, plate-part}

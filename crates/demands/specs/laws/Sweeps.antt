@@ -33,12 +33,12 @@ use Rattle.lookups.specs.laws.Outcomes.{by-plate-one}
 use Rattle.verdicts.specs.Verdict.{taken}
 use Rattle.holdings.specs.laws.Room.{holdings-most}
 use Rattle.thinness.specs.Thin.{thin}
-use Rattle.importer.specs.declared.Imported.{Imported}
-use Rattle.importer.specs.Handed.{Handed}
-use Rattle.importer.specs.Import.{judged, fileStamp, following, confirmed, judgedStops}
-use Rattle.importer.specs.Promises.{Import}
-use Rattle.importer.specs.laws.Numbers.{Formed}
-use Rattle.importer.specs.laws.Thin.{length-taken}
+use Rattle.imports.specs.declared.Imported.{Imported}
+use Rattle.imports.specs.Handed.{Handed}
+use Rattle.imports.specs.Import.{judged, fileStamp, following, confirmed, judgedStops}
+use Rattle.imports.specs.Promises.{Import}
+use Rattle.imports.specs.laws.Numbers.{Formed}
+use Rattle.imports.specs.laws.Thin.{length-taken}
 use Rattle.sweeping.specs.declared.Swept.{Swept}
 use Rattle.sweeping.specs.Sweep.{ended, going, staying, sweepStops, sweepNumber}
 use Rattle.sweeping.specs.Promises.{Sweep}

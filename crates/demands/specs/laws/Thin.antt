@@ -33,14 +33,14 @@ use Rattle.thinness.specs.Thin.{thin}
 use Rattle.thinness.specs.laws.Thin.{thin-so, thin-only, thick-half}
 use Rattle.stops.specs.Stops.{formStops, formStop}
 use Rattle.stops.specs.laws.Clear.{clear}
-use Rattle.importer.specs.declared.Imported.{Imported}
-use Rattle.importer.specs.Handed.{Handed}
-use Rattle.importer.specs.Import.{judged, fileStamp, following, confirmed, judgedStops, importNumber, timed}
-use Rattle.importer.specs.Promises.{Import}
-use Rattle.importer.specs.laws.Numbers.{Formed, number-judged, accepted-clear, accepted-passed}
-use Rattle.importer.specs.laws.Accepted.{lines-his}
-use Rattle.importer.specs.laws.Follows.{fit}
-use Rattle.importer.specs.laws.Thin.{length-taken, never-both}
+use Rattle.imports.specs.declared.Imported.{Imported}
+use Rattle.imports.specs.Handed.{Handed}
+use Rattle.imports.specs.Import.{judged, fileStamp, following, confirmed, judgedStops, importNumber, timed}
+use Rattle.imports.specs.Promises.{Import}
+use Rattle.imports.specs.laws.Numbers.{Formed, number-judged, accepted-clear, accepted-passed}
+use Rattle.imports.specs.laws.Accepted.{lines-his}
+use Rattle.imports.specs.laws.Follows.{fit}
+use Rattle.imports.specs.laws.Thin.{length-taken, never-both}
 use Rattle.provider.specs.declared.Counted.{Counted}
 use Rattle.updating.specs.Sent.{Sent}
 use Rattle.updating.specs.Update.{copyStops, receiptStops, updateNumber}

@@ -23,11 +23,11 @@ use Rattle.register.specs.Register.{inOrder}
 use Rattle.receipts.specs.Receipt.{takenBy, receiptHolds}
 use Rattle.verdicts.specs.Verdict.{ownRules, verdictRules, verdict, verdictsOf, fileVerdicts}
 use Rattle.stops.specs.laws.Clear.{clear, clear-none}
-use Rattle.importer.specs.declared.Imported.{Imported}
-use Rattle.importer.specs.Handed.{Handed}
-use Rattle.importer.specs.Import.{judged, following, confirmed, success, registerWritten, hgcWritten, timed}
-use Rattle.importer.specs.Promises.{Import}
-use Rattle.importer.specs.laws.Numbers.{accepted-clear, accepted-passed}
+use Rattle.imports.specs.declared.Imported.{Imported}
+use Rattle.imports.specs.Handed.{Handed}
+use Rattle.imports.specs.Import.{judged, following, confirmed, success, registerWritten, hgcWritten, timed}
+use Rattle.imports.specs.Promises.{Import}
+use Rattle.imports.specs.laws.Numbers.{accepted-clear, accepted-passed}
 use Rattle.demands.specs.History.{acceptance}
 use Rattle.demands.specs.Weighed.{limitBefore, inOrderBefore, receiptHoldsBefore, L10Under, rulesUnder, verdictUnder, judgedUnder, followingBy, AcceptedUnder, ownCounts, acceptanceBy}
 use Rattle.demands.specs.laws.Imports.{number-0, done-is, register-is, hgc-is}

@@ -1,14 +1,14 @@
 -- Assumes nothing.
-use Rattle.importer.specs.Promises.{Import}
+use Rattle.imports.specs.Promises.{Import}
 use mathlib.Core.Path.{_≡_, sym, _∙_}
 use native.Mathlib.Omega.{arith}
-use Rattle.importer.specs.Handed.{handed}
-use Rattle.importer.specs.laws.Numbers.{number-form, stop-answer, stop-register, stop-hgc}
+use Rattle.imports.specs.Handed.{handed}
+use Rattle.imports.specs.laws.Numbers.{number-form, stop-answer, stop-register, stop-hgc}
 use lib.Seq.{length-take-le}
 use mir.Syntax.{w64}
 use mir.Val.{toZ, ofZ}
 use mir.ValLaws.{toZ-ofZ}
-use Rattle.importer.proofs.Laws.{in-range, offset-is, formed-ahead, lines-in-most}
+use Rattle.imports.specs.laws.Form.{in-range, offset-is, formed-ahead, lines-in-most}
 use borrow.Author.Needs.{needs}
 use Rattle.importer.proofs.import.Statement.{statement}
 use Rattle.importer.proofs.import.Tie as tie

@@ -1,7 +1,7 @@
 -- Assumes nothing.
 use Rattle.offsets.specs.Ahead.{offsetOf}
-use Rattle.importer.specs.Handed.{handed}
-use Rattle.importer.specs.Import.{judged}
+use Rattle.imports.specs.Handed.{handed}
+use Rattle.imports.specs.Import.{judged}
 use Rattle.importer.proofs.Laws.{find-fits, sought}
 use borrow.Author.Needs.{needs}
 use Rattle.importer.proofs.import_lines.Statement.{statement}

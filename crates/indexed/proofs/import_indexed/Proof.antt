@@ -6,8 +6,8 @@ use mir.Syntax.{w64}
 use mir.Val.{toZ, ofZ}
 use mir.ValLaws.{toZ-ofZ}
 use Rattle.stops.specs.laws.Clear.{indexed-none}
-use Rattle.importer.specs.Handed.{handed}
-use Rattle.importer.proofs.Laws.{in-range, offset-is, formed-ahead, lines-in-most}
+use Rattle.imports.specs.Handed.{handed}
+use Rattle.imports.specs.laws.Form.{in-range, offset-is, formed-ahead, lines-in-most}
 use Rattle.indexed.specs.laws.Same.{as-indexed, stopped}
 use borrow.Author.Needs.{needs}
 use Rattle.indexed.proofs.import_indexed.Statement.{statement}

@@ -1,5 +1,5 @@
 -- Assumes nothing.
-use Rattle.importer.specs.Import.{judged}
+use Rattle.imports.specs.Import.{judged}
 use Rattle.indexed.proofs.Laws.{judged-sought}
 use borrow.Author.Needs.{needs}
 use Rattle.indexed.proofs.import_lines.Statement.{statement}

@@ -4,8 +4,8 @@ use mathlib.Core.Path.{_≡_}
 use mathlib.Core.List.{List}
 use Prim.Native.Nat.{ℕ}
 use Rattle.theory.specs.laws.Outcome.{one-outcome}
-use Rattle.importer.specs.declared.Imported.{Imported}
-use Rattle.importer.specs.Handed.{Handed}
+use Rattle.imports.specs.declared.Imported.{Imported}
+use Rattle.imports.specs.Handed.{Handed}
 use Rattle.indexed.specs.Promises.{ImportIndexed}
 
 pub import-indexed-one : (k : ℕ) (f : Handed) (register : List ℕ) (r r′ : Imported) (b b′ g g′ : List ℕ) → ImportIndexed k f register r b g

@@ -9,10 +9,10 @@ use Rattle.theory.specs.laws.First.{numbered, fitsAt, none-at, first-clear}
 use Rattle.theory.specs.laws.Stopped.{at-stop, by-first}
 use Rattle.slots.specs.Slots.{slotsIn}
 use Rattle.stops.specs.Stops.{callStops, fileStops, formStops, indexShort, indexedFormStops, indexedFormStop}
-use Rattle.importer.specs.declared.Imported.{Imported}
-use Rattle.importer.specs.Handed.{Handed}
-use Rattle.importer.specs.Import.{judgedStops, timed, stops, importNumber, refusal, importAnswer, registerAfter, hgcAfter}
-use Rattle.importer.specs.Promises.{Import}
+use Rattle.imports.specs.declared.Imported.{Imported}
+use Rattle.imports.specs.Handed.{Handed}
+use Rattle.imports.specs.Import.{judgedStops, timed, stops, importNumber, refusal, importAnswer, registerAfter, hgcAfter}
+use Rattle.imports.specs.Promises.{Import}
 use Rattle.indexed.specs.Indexed.{indexedStops, indexedNumber}
 use Rattle.indexed.specs.Promises.{ImportIndexed}
 

@@ -41,14 +41,14 @@ use Rattle.verdicts.specs.Verdict.{fileVerdicts, taken}
 use Rattle.holdings.specs.Holdings.{holdings}
 use Rattle.thinness.specs.laws.Thin.{incremental-thick}
 use Rattle.hgc.specs.laws.Confirmation.{length-confirmation}
-use Rattle.importer.specs.declared.Imported.{Imported}
+use Rattle.imports.specs.declared.Imported.{Imported}
 use Rattle.offsets.specs.Offset.{local, receptionHolds}
 use Rattle.offsets.specs.laws.Shift.{local-real}
-use Rattle.importer.specs.Handed.{Handed, handed}
-use Rattle.importer.specs.Import.{judged, fileStamp, following, confirmed, judgedStops, success}
-use Rattle.importer.specs.Promises.{Import}
+use Rattle.imports.specs.Handed.{Handed, handed}
+use Rattle.imports.specs.Import.{judged, fileStamp, following, confirmed, judgedStops, success}
+use Rattle.imports.specs.Promises.{Import}
 use Rattle.stops.specs.Clear.{Clear}
-use Rattle.importer.specs.laws.Numbers.{number-judged}
+use Rattle.imports.specs.laws.Numbers.{number-judged}
 use Rattle.demands.specs.Verdicts.{Verdicts}
 use Rattle.demands.specs.laws.Judging.{verdicts-there}
 use Rattle.demands.specs.laws.Imports as imports

@@ -3,8 +3,8 @@ use mathlib.Core.Path.{_≡_}
 use mathlib.Core.List.{List}
 use Prim.Native.Nat.{ℕ}
 use lib.ListN.{length}
-use Rattle.importer.specs.Handed.{Handed}
-use Rattle.importer.specs.Import.{answered}
+use Rattle.imports.specs.Handed.{Handed}
+use Rattle.imports.specs.Import.{answered}
 use Rattle.indexed.specs.laws.Outcomes.{import-indexed-one}
 use Rattle.service_indexed.specs.Promises.{GraftspindleImportIndexed}
 

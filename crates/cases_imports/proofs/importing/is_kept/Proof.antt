@@ -2,8 +2,8 @@
 use lib.ListN.{length}
 use Prim.Native.Nat.{_≤_, _-_}
 use borrow.Author.Needs.{needs}
-use Rattle.cases_imports.proofs.imports.is_kept.Statement.{statement}
-use Rattle.cases_imports.proofs.imports.is_kept.Tie as tie
+use Rattle.cases_imports.proofs.importing.is_kept.Statement.{statement}
+use Rattle.cases_imports.proofs.importing.is_kept.Tie as tie
 
 abbrev Inv-loop : tie.InvT-loop
 Inv-loop buffer from i₀ i = from ≤ i

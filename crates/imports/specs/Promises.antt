@@ -2,9 +2,9 @@
 use mathlib.Core.Path.{_≡_}
 use mathlib.Core.List.{List}
 use Prim.Native.Nat.{ℕ}
-use Rattle.importer.specs.declared.Imported.{Imported}
-use Rattle.importer.specs.Handed.{Handed}
-use Rattle.importer.specs.Import.{refusal, importAnswer, registerAfter, hgcAfter}
+use Rattle.imports.specs.declared.Imported.{Imported}
+use Rattle.imports.specs.Handed.{Handed}
+use Rattle.imports.specs.Import.{refusal, importAnswer, registerAfter, hgcAfter}
 
 -- of what is handed over beside the register: the answer, the register and the buffer after it
 unfoldable pub Import : Handed → List ℕ → Imported → List ℕ → List ℕ → Type 0

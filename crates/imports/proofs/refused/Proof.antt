@@ -1,8 +1,8 @@
 -- Assumes nothing.
 use mathlib.Core.Path.{refl}
-use Rattle.importer.specs.Import.{refusal}
-use Rattle.importer.proofs.refused.Statement.{statement}
-use Rattle.importer.proofs.refused.Tie as tie
+use Rattle.imports.specs.Import.{refusal}
+use Rattle.imports.proofs.refused.Statement.{statement}
+use Rattle.imports.proofs.refused.Tie as tie
 
 returns : tie.Need-returns
 unfolding refusal

@@ -22,8 +22,8 @@ use Rattle.thinness.specs.Thin.{thin}
 use Rattle.holdings.specs.Holdings.{holdings}
 use Rattle.offsets.specs.Offset.{local, receptionHolds}
 use Rattle.stops.specs.Stops.{formStops}
-use Rattle.importer.specs.declared.Imported.{Imported}
-use Rattle.importer.specs.Handed.{Handed}
+use Rattle.imports.specs.declared.Imported.{Imported}
+use Rattle.imports.specs.Handed.{Handed}
 
 -- the verdicts of the lines of the HGV h, beside the register as it was
 unfoldable pub judged : List ℕ → List ℕ → List ℕ → List ℕ

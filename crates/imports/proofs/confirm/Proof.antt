@@ -1,8 +1,8 @@
 -- Assumes nothing.
-use Rattle.importer.proofs.Laws.{local-fits}
+use Rattle.imports.proofs.Laws.{local-fits}
 use borrow.Author.Needs.{needs}
-use Rattle.importer.proofs.confirm.Statement.{statement}
-use Rattle.importer.proofs.confirm.Tie as tie
+use Rattle.imports.proofs.confirm.Statement.{statement}
+use Rattle.imports.proofs.confirm.Tie as tie
 
 write-local-requires : tie.Need-write-local-requires
 write-local-requires c κs = (search needs, local-fits _ _ (c .before .before .before .before .before .pre .0))

@@ -4,12 +4,12 @@ use Rattle.theory.specs.First.{first}
 use Rattle.theory.specs.laws.First.{chosen}
 use Rattle.hgv.specs.laws.Layout.{is-width}
 use Rattle.offsets.specs.Ahead.{offsetOf}
-use Rattle.importer.specs.Handed.{handed}
-use Rattle.importer.specs.Import.{judgedStops}
-use Rattle.importer.proofs.Laws.{rejected-most, taken-few, thin-is, slots-are, buffer-is}
+use Rattle.imports.specs.Handed.{handed}
+use Rattle.imports.specs.Import.{judgedStops}
+use Rattle.imports.proofs.Laws.{rejected-most, taken-few, thin-is, slots-are, buffer-is}
 use borrow.Author.Needs.{needs}
-use Rattle.importer.proofs.judged_stop.Statement.{statement}
-use Rattle.importer.proofs.judged_stop.Tie as tie
+use Rattle.imports.proofs.judged_stop.Statement.{statement}
+use Rattle.imports.proofs.judged_stop.Tie as tie
 
 used-after-requires : tie.Need-used-after-requires
 used-after-requires c κs = c .before .before .before .before .before .before .before .before .pre .1 .1 .1 .1 .many

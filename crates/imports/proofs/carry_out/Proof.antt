@@ -1,8 +1,8 @@
 -- Assumes nothing.
-use Rattle.importer.proofs.Laws.{apply-fits, applied, confirm-fits, hgc-is, length-fits, success-is}
+use Rattle.imports.proofs.Laws.{apply-fits, applied, confirm-fits, hgc-is, length-fits, success-is}
 use borrow.Author.Needs.{needs}
-use Rattle.importer.proofs.carry_out.Statement.{statement}
-use Rattle.importer.proofs.carry_out.Tie as tie
+use Rattle.imports.proofs.carry_out.Statement.{statement}
+use Rattle.imports.proofs.carry_out.Tie as tie
 
 apply-requires : tie.Need-apply-requires
 apply-requires c κs = apply-fits _ _ _ _ _ _ (c .before .before .before .before .before .before .before .before .before .before .before .before .pre) _ _ _ _ (c .before .before .before .sender .ensures) (c .before .before .list-sequence .ensures) (c .before .body .ensures) (c .width .ensures)

@@ -4,9 +4,9 @@ use mathlib.Core.Path.{_≡_}
 use mathlib.Core.List.{List}
 use Prim.Native.Nat.{ℕ}
 use Rattle.theory.specs.laws.Outcome.{one-outcome}
-use Rattle.importer.specs.declared.Imported.{Imported}
-use Rattle.importer.specs.Handed.{Handed}
-use Rattle.importer.specs.Promises.{Import, ImportJudged, Refused}
+use Rattle.imports.specs.declared.Imported.{Imported}
+use Rattle.imports.specs.Handed.{Handed}
+use Rattle.imports.specs.Promises.{Import, ImportJudged, Refused}
 
 pub import-one : (f : Handed) (register : List ℕ) (r r′ : Imported) (b b′ g g′ : List ℕ) → Import f register r b g → Import f register r′ b′ g′
     → (r ≡ r′) × ((b ≡ b′) × (g ≡ g′))

@@ -9,9 +9,9 @@ use Rattle.theory.specs.Stopped.{unlessStopped}
 use Rattle.times.specs.Time.{realTime}
 use Rattle.offsets.specs.laws.Shift.{local-zero, received-zero}
 use Rattle.stops.specs.Stops.{modeHolds, callStops, formStops}
-use Rattle.importer.specs.Handed.{Handed}
-use Rattle.importer.specs.Import.{shown, confirmed, judgedStops, timed, stops, importNumber, success, importAnswer, registerAfter, hgcWritten, hgcAfter}
-use Rattle.importer.specs.Shown.{confirmedAs, stopsAs, numberAs, answerAs, registerAs, hgcAs}
+use Rattle.imports.specs.Handed.{Handed}
+use Rattle.imports.specs.Import.{shown, confirmed, judgedStops, timed, stops, importNumber, success, importAnswer, registerAfter, hgcWritten, hgcAfter}
+use Rattle.imports.specs.Shown.{confirmedAs, stopsAs, numberAs, answerAs, registerAs, hgcAs}
 
 -- answer, register and buffer by b and t
 pub record As (b : Bool) (t : List ℕ) (f : Handed) (register : List ℕ) : Type 0 where

@@ -1,13 +1,13 @@
 -- Assumes nothing.
-use Rattle.importer.specs.Promises.{Import}
+use Rattle.imports.specs.Promises.{Import}
 use mathlib.Core.Path.{sym, _∙_}
 use Rattle.offsets.specs.Ahead.{offsetOf}
-use Rattle.importer.specs.Handed.{handed}
-use Rattle.importer.specs.laws.Numbers.{number-judged, stop-answer, stop-register, stop-hgc, done-answer, done-register, done-hgc}
-use Rattle.importer.proofs.Laws.{taken-most, rest-rejected, accepts}
+use Rattle.imports.specs.Handed.{handed}
+use Rattle.imports.specs.laws.Numbers.{number-judged, stop-answer, stop-register, stop-hgc, done-answer, done-register, done-hgc}
+use Rattle.imports.proofs.Laws.{taken-most, rest-rejected, accepts}
 use borrow.Author.Needs.{needs}
-use Rattle.importer.proofs.import_judged.Statement.{statement}
-use Rattle.importer.proofs.import_judged.Tie as tie
+use Rattle.imports.proofs.import_judged.Statement.{statement}
+use Rattle.imports.proofs.import_judged.Tie as tie
 
 sub-rejected : tie.Need-sub-rejected
 sub-rejected c = taken-most _ _ (c .count-taken .ensures)

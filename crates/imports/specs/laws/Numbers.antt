@@ -19,8 +19,8 @@ use Rattle.thinness.specs.Thin.{thin}
 use Rattle.stops.specs.Stops.{callStops, fileStops, formStops, formStop}
 use Rattle.stops.specs.Clear.{Clear}
 use Rattle.stops.specs.laws.Clear.{clear, clear-none}
-use Rattle.importer.specs.Handed.{Handed}
-use Rattle.importer.specs.Import.{judged, following, confirmed, judgedStops, shown, timed, stops, importNumber, refusal, success, registerWritten, hgcWritten, importAnswer, registerAfter, hgcAfter}
+use Rattle.imports.specs.Handed.{Handed}
+use Rattle.imports.specs.Import.{judged, following, confirmed, judgedStops, shown, timed, stops, importNumber, refusal, success, registerWritten, hgcWritten, importAnswer, registerAfter, hgcAfter}
 
 -- the file's form is right: none of 21 to 32
 abbrev pub Formed : Handed → List ℕ → Type 0

@@ -35,9 +35,9 @@ use Rattle.upkeep.specs.laws.Makes.{each-makes}
 use Rattle.applying.specs.Fit.{Sought}
 use Rattle.holdings.specs.Room.{usedAfter}
 use Rattle.holdings.specs.laws.Room.{used-after}
-use Rattle.importer.specs.Handed.{Handed}
-use Rattle.importer.specs.Import.{judged, fileStamp, following, shown, confirmed}
-use Rattle.importer.specs.laws.Numbers.{Formed, formed-received, formed-shown}
+use Rattle.imports.specs.Handed.{Handed}
+use Rattle.imports.specs.Import.{judged, fileStamp, following, shown, confirmed}
+use Rattle.imports.specs.laws.Numbers.{Formed, formed-received, formed-shown}
 
 module _ (f : Handed) (register : List ℕ) (c : Formed f register) where
   -- ---- the taken lines

@@ -20,10 +20,10 @@ use Rattle.verdicts.specs.Verdict.{taken}
 use Rattle.thinness.specs.Thin.{thin}
 use Rattle.thinness.specs.laws.Thin.{thin-only}
 use Rattle.holdings.specs.laws.Room.{used-full}
-use Rattle.importer.specs.Handed.{Handed}
-use Rattle.importer.specs.Import.{judged, following}
-use Rattle.importer.specs.laws.Numbers.{Formed}
-use Rattle.importer.specs.laws.Accepted.{following-used, verdict-each}
+use Rattle.imports.specs.Handed.{Handed}
+use Rattle.imports.specs.Import.{judged, following}
+use Rattle.imports.specs.laws.Numbers.{Formed}
+use Rattle.imports.specs.laws.Accepted.{following-used, verdict-each}
 
 module _ (f : Handed) (register : List ℕ) (c : Formed f register) where
   abbrev vs : List ℕ

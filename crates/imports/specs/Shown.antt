@@ -14,9 +14,9 @@ use Rattle.slots.specs.Slots.{slotsIn, records}
 use Rattle.hgc.specs.Confirmation.{confirmation}
 use Rattle.thinness.specs.Thin.{thin}
 use Rattle.stops.specs.Stops.{formStops}
-use Rattle.importer.specs.declared.Imported.{Imported}
-use Rattle.importer.specs.Handed.{Handed}
-use Rattle.importer.specs.Import.{judged, following, refusal, registerWritten}
+use Rattle.imports.specs.declared.Imported.{Imported}
+use Rattle.imports.specs.Handed.{Handed}
+use Rattle.imports.specs.Import.{judged, following, refusal, registerWritten}
 
 module _ (b : Bool) (t : List ℕ) (f : Handed) (register : List ℕ) where
   unfoldable pub confirmedAs : List ℕ

@@ -23,10 +23,10 @@ use Rattle.upkeep.specs.Holds.{Holds}
 use Rattle.applying.specs.Fit.{Fit}
 use Rattle.applying.specs.laws.Follows.{follows}
 use Rattle.applying.specs.laws.Others.{others-stay, places-stay}
-use Rattle.importer.specs.Handed.{Handed}
-use Rattle.importer.specs.Import.{judged, fileStamp, following, importNumber, registerWritten}
-use Rattle.importer.specs.laws.Accepted.{lines-made, lines-his, lines-apart, lines-free}
-use Rattle.importer.specs.laws.Numbers.{Formed, accepted-clear, accepted-passed}
+use Rattle.imports.specs.Handed.{Handed}
+use Rattle.imports.specs.Import.{judged, fileStamp, following, importNumber, registerWritten}
+use Rattle.imports.specs.laws.Accepted.{lines-made, lines-his, lines-apart, lines-free}
+use Rattle.imports.specs.laws.Numbers.{Formed, accepted-clear, accepted-passed}
 
 module _ (f : Handed) (register : List ℕ) (e : importNumber f register ≡ 0) where
   c : Formed f register

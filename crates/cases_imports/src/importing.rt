@@ -13,7 +13,7 @@ use crate::blocks::lay_slots;
 use crate::blocks::number_in;
 use crate::blocks::offset_in;
 use crate::blocks::sent_length;
-use importer::Imported;
+use imports::Imported;
 use libc::STDOUT_FILENO;
 use sizes::ROW;
 use vectors::SAMPLES;

@@ -4,3 +4,4 @@ pub mod Follows
 pub mod Thin
 pub mod Outcomes
 pub mod Shown
+pub mod Form
