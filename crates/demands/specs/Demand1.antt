@@ -13,7 +13,8 @@ use Rattle.imports.specs.Promises.{Import}
 use Rattle.provider.specs.declared.Counted.{Counted}
 use Rattle.reading.specs.ReadBack.{hgvStops, blockStops}
 use Rattle.updating.specs.Sent.{Sent}
-use Rattle.updating.specs.Update.{copyStops, receiptStops}
+use Rattle.copies.specs.Copy.{copyStops}
+use Rattle.updating.specs.Update.{receiptStops}
 use Rattle.reading.specs.Promises.{ReadBack}
 use Rattle.updating.specs.Promises.{Update}
 use Rattle.imports.specs.Handed.{Handed}

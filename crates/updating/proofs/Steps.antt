@@ -41,8 +41,10 @@ use Rattle.receipts.specs.Receipt.{listOf, receptionOf, textsOf, copiesOf, mark
 use Rattle.provider.specs.declared.Counted.{Counted}
 use Rattle.provider.specs.Answer.{stopCounts, successCounts}
 use Rattle.updating.specs.Sent.{sent}
-use Rattle.updating.specs.Update.{copyStops, copyFollowing, sentHolds, updateAnswer, copyWritten, copyAfter}
-use Rattle.updating.specs.laws.Numbers.{copy-sound, update-52, update-33, update-done, update-refused, copy-stays, update-counted, copy-updated}
+use Rattle.copies.specs.Copy.{copyStops}
+use Rattle.updating.specs.Update.{copyFollowing, sentHolds, updateAnswer, copyWritten, copyAfter}
+use Rattle.copies.specs.laws.Sound.{copy-sound}
+use Rattle.updating.specs.laws.Numbers.{update-52, update-33, update-done, update-refused, copy-stays, update-counted, copy-updated}
 use Rattle.updating.specs.laws.Fits.{receipt-holds, received-real, lines-storable, following-used, taken-fit}
 use Rattle.provider.specs.laws.Held.{length-marks-of, list-held, marks-are}
 

@@ -19,7 +19,7 @@ use Rattle.receipts.specs.Receipt.{listOf, takenBy}
 use Rattle.provider.specs.declared.Counted.{Counted}
 use Rattle.provider.specs.Answer.{stopCounts, successCounts}
 use Rattle.updating.specs.Sent.{Sent}
-use Rattle.updating.specs.Update.{copyStops}
+use Rattle.copies.specs.Copy.{copyStops}
 
 module _ (b : Bool) (t : List ℕ) (s : Sent) (copy : List ℕ) where
   unfoldable pub followingAs : List (List ℕ)

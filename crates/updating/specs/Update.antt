@@ -7,46 +7,20 @@ use lib.Dec.{ltb}
 use lib.ListN.{length}
 use Rattle.theory.specs.First.{Rule, _if_, first}
 use Rattle.theory.specs.Stopped.{unlessStopped}
-use Rattle.theory.specs.Walk.{each}
 use Rattle.theory.specs.Join.{flat}
 use Rattle.theory.specs.Pad.{pad}
-use Rattle.hgv.specs.Layout.{lengthHolds}
-use Rattle.frames.specs.Frames.{footerHolds, framesHold}
-use Rattle.header.specs.Header.{sender, headerHolds}
-use Rattle.claims.specs.Claims.{versionHolds, receiverHolds, countHolds}
+use Rattle.header.specs.Header.{sender}
 use Rattle.sizes.specs.Sizes.{slotLength}
 use Rattle.stamps.specs.Stamp.{stamp}
 use Rattle.records.specs.Slot.{slotOf}
 use Rattle.slots.specs.Slots.{slotsIn, records}
-use Rattle.register.specs.Register.{inOrder}
-use Rattle.slots.specs.Search.{ofActor}
 use Rattle.holdings.specs.Holdings.{holdings}
-use Rattle.stops.specs.Stops.{modeHolds, fullWith220001}
 use Rattle.offsets.specs.Offset.{utc, utcHolds}
+use Rattle.copies.specs.Copy.{copyStops}
 use Rattle.receipts.specs.Receipt.{listOf, receptionOf, takenBy, receiptHolds}
 use Rattle.provider.specs.declared.Counted.{Counted}
 use Rattle.provider.specs.Answer.{stopCounts, successCounts}
 use Rattle.updating.specs.Sent.{Sent}
-
--- every record in the copy is the sender's
-unfoldable pub ownHolds : List ℕ → List ℕ → Bool
-ownHolds copy h = each (ofActor (sender h)) (records copy)
-
--- 21, 23, 25 to 28, 29 (receiver only), 51 (another actor than the sender in the copy), 30 to 32
-unfoldable pub copyStops : ℕ → List ℕ → List ℕ → List Rule
-copyStops mode copy h =
-    (21 if not (modeHolds mode))
-    ∷ (23 if not (inOrder copy))
-    ∷ (25 if not (lengthHolds h))
-    ∷ (26 if not (headerHolds h))
-    ∷ (27 if not (versionHolds h))
-    ∷ (28 if fullWith220001 mode h)
-    ∷ (29 if not (receiverHolds h))
-    ∷ (51 if not (ownHolds copy h))
-    ∷ (30 if not (countHolds h))
-    ∷ (31 if not (footerHolds h))
-    ∷ (32 if not (framesHold h))
-    ∷ []
 
 -- when the file was received, in UTC: the HGC shows it in local time
 abbrev pub receivedAt : Sent → List ℕ

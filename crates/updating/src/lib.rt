@@ -8,33 +8,9 @@ ghost use Rattle.hgv.specs.Layout.{linesIn};
 ghost use Rattle.offsets.specs.Ahead.{aheadMost, offsetOf};
 ghost use Rattle.receipts.specs.Receipt.{marksOf};
 ghost use Rattle.updating.specs.Sent.{sent};
-ghost use Rattle.updating.specs.Update.{ownHolds, copyStops, sentHolds};
+ghost use Rattle.copies.specs.Copy.{copyStops};
+ghost use Rattle.updating.specs.Update.{sentHolds};
 ghost use Rattle.updating.specs.Promises.{Update};
-
-// Is every record in the copy the sender's.
-fn is_own(copy: &[u8], hgv: &[u8]) -> bool
-    ensures { λ r. ⌜ r ≡ ownHolds (now (copy .entry)) (now (hgv .entry)) ⌝ }
-{
-    let held = slots::used_part(copy);
-    slots::count_of(held, header::sender(hgv)) == held.len() / sizes::SLOT
-}
-
-// The stops that look at the mode, the copy and the HGV.
-fn copy_stop(mode: u64, copy: &[u8], hgv: &[u8]) -> u64
-    ensures { λ r. ⌜ r ≡ first (copyStops mode (now (copy .entry)) (now (hgv .entry))) ⌝ }
-{
-    let s32 = rules::first(!frames::has_frames(hgv), 32, 0);
-    let s31 = rules::first(!frames::has_footer(hgv), 31, s32);
-    let s30 = rules::first(!claims::has_count(hgv), 30, s31);
-    let s51 = rules::first(!is_own(copy, hgv), 51, s30);
-    let s29 = rules::first(!claims::has_receiver(hgv), 29, s51);
-    let s28 = rules::first(stops::is_full_with_220001(mode, hgv), 28, s29);
-    let s27 = rules::first(!claims::has_version(hgv), 27, s28);
-    let s26 = rules::first(!header::has_header(hgv), 26, s27);
-    let s25 = rules::first(!hgv::has_length(hgv), 25, s26);
-    let s23 = rules::first(!register::in_order(copy), 23, s25);
-    rules::first(!stops::is_mode(mode), 21, s23)
-}
 
 // The update by an HGC that holds: `marks` says which lines were taken, `found` has a number for each, and the offset is
 // `ahead` minutes ahead of the least one.
@@ -105,7 +81,7 @@ fn update_lines(
 pub fn update(mode: u64, offset: i64, copy: &mut [u8], hgv: &[u8], hgc: &[u8]) -> provider::Counted
     ensures { λ r. ⌜ Update (sent mode offset (now (hgv .entry)) (now (hgc .entry))) (now (copy .entry)) r (now (copy .exit)) ⌝ }
 {
-    let stop = copy_stop(mode, copy, hgv);
+    let stop = copies::copy_stop(mode, copy, hgv);
     if stop != 0 {
         return provider::refused(stop);
     }

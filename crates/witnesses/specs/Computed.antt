@@ -64,7 +64,7 @@ use Rattle.receipts.specs.Receipt.{answersIn, behindHead, answersOf, lengthForm
 use Rattle.provider.specs.declared.Counted.{Counted}
 use Rattle.provider.specs.Answer.{stopCounts, successCounts}
 use Rattle.updating.specs.Sent.{Sent, sent}
-use Rattle.updating.specs.Update.{ownHolds, copyStops}
+use Rattle.copies.specs.Copy.{ownHolds, copyStops}
 use Rattle.updating.specs.Shown as updates
 use Rattle.updating.specs.Shown.{followingAs, copyAs}
 use Rattle.sweeping.specs.declared.Swept.{Swept}

@@ -12,7 +12,8 @@ use Rattle.provider.specs.declared.Counted.{Counted}
 use Rattle.provider.specs.Answer.{stopCounts, successCounts}
 use Rattle.reading.specs.ReadBack.{hgvStops, blockStops, readNumber, readAnswer}
 use Rattle.updating.specs.Sent.{Sent}
-use Rattle.updating.specs.Update.{copyStops, receiptStops, updateNumber, updateAnswer}
+use Rattle.copies.specs.Copy.{copyStops}
+use Rattle.updating.specs.Update.{receiptStops, updateNumber, updateAnswer}
 use Rattle.reading.specs.Promises.{ReadBack}
 use Rattle.updating.specs.Promises.{Update}
 use Rattle.reading.specs.laws.Numbers.{read-refused, verdicts-stay}

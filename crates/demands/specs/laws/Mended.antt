@@ -22,9 +22,10 @@ use Rattle.holdings.specs.Holdings.{others, replacedAll, holdings}
 use Rattle.receipts.specs.Receipt.{takenBy}
 use Rattle.provider.specs.declared.Counted.{Counted}
 use Rattle.updating.specs.Sent.{Sent}
-use Rattle.updating.specs.Update.{ownHolds, copyStops, receiptStops, sentStamp, copyFollowing, updateNumber, copyWritten, copyAfter}
+use Rattle.copies.specs.Copy.{ownHolds, copyStops}
+use Rattle.updating.specs.Update.{receiptStops, sentStamp, copyFollowing, updateNumber, copyWritten, copyAfter}
 use Rattle.updating.specs.Promises.{Update}
-use Rattle.updating.specs.laws.Numbers.{copy-sound}
+use Rattle.copies.specs.laws.Sound.{copy-sound}
 use Rattle.demands.specs.laws.Answered.{update-is}
 
 module _ (s : Sent) (m : s .mode ≡ full) where

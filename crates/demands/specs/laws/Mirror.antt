@@ -25,7 +25,8 @@ use Rattle.imports.specs.Import.{fileStamp, shown}
 use Rattle.provider.specs.laws.Held.{list-held}
 use Rattle.updating.specs.Sent.{Sent, sent}
 use Rattle.offsets.specs.laws.Shift.{local-back, local-utc}
-use Rattle.updating.specs.Update.{ownHolds, copyStops, copyFollowing, receiptStops, updateNumber, updateAnswer, copyWritten, copyAfter, sentHolds}
+use Rattle.copies.specs.Copy.{ownHolds, copyStops}
+use Rattle.updating.specs.Update.{copyFollowing, receiptStops, updateNumber, updateAnswer, copyWritten, copyAfter, sentHolds}
 use Rattle.demands.specs.Own.{own}
 use Rattle.demands.specs.laws.Own.{own-holdings, fit-own, own-stays}
 use Rattle.imports.specs.laws.Numbers.{Formed}

@@ -46,9 +46,10 @@ use Rattle.receipts.specs.Receipt.{listOf, takenBy, receiptHolds}
 use Rattle.provider.specs.declared.Counted.{Counted}
 use Rattle.provider.specs.laws.Held.{list-held}
 use Rattle.updating.specs.Sent.{Sent}
-use Rattle.updating.specs.Update.{copyStops, sentStamp, copyFollowing, receiptStops, updateNumber, copyWritten, copyAfter, receivedAt, sentHolds}
+use Rattle.copies.specs.Copy.{copyStops}
+use Rattle.updating.specs.Update.{sentStamp, copyFollowing, receiptStops, updateNumber, copyWritten, copyAfter, receivedAt, sentHolds}
 use Rattle.updating.specs.Promises.{Update}
-use Rattle.updating.specs.laws.Numbers.{Sound, copy-sound}
+use Rattle.copies.specs.laws.Sound.{Sound, copy-sound}
 use Rattle.updating.specs.laws.Fits.{receipt-holds, received-real, lines-storable as sent-storable, taken-fit}
 use Rattle.demands.specs.Verdicts.{Verdicts}
 use Rattle.demands.specs.laws.Answered.{update-is}

@@ -43,7 +43,8 @@ use Rattle.imports.specs.laws.Follows.{fit}
 use Rattle.imports.specs.laws.Thin.{length-taken, never-both}
 use Rattle.provider.specs.declared.Counted.{Counted}
 use Rattle.updating.specs.Sent.{Sent}
-use Rattle.updating.specs.Update.{copyStops, receiptStops, updateNumber}
+use Rattle.copies.specs.Copy.{copyStops}
+use Rattle.updating.specs.Update.{receiptStops, updateNumber}
 use Rattle.updating.specs.Promises.{Update}
 use Rattle.demands.specs.Own.{own}
 use Rattle.demands.specs.Verdicts.{Verdicts}

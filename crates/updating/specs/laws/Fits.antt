@@ -27,7 +27,8 @@ use Rattle.applying.specs.Fit.{Fit}
 use Rattle.receipts.specs.Receipt.{listOf, receptionOf, takenBy, receiptHolds}
 use Rattle.provider.specs.laws.Held.{taken-storable, taken-apart, taken-made}
 use Rattle.updating.specs.Sent.{sent}
-use Rattle.updating.specs.Update.{ownHolds, copyFollowing, sentHolds}
+use Rattle.copies.specs.Copy.{ownHolds}
+use Rattle.updating.specs.Update.{copyFollowing, sentHolds}
 
 module _ (mode : ℕ) (o : ℤ) (h g : List ℕ) (headed : headerHolds h ≡ true) (k : sentHolds (sent mode o h g) ≡ true) where
   pub receipt-holds : receiptHolds h g ≡ true

@@ -1,41 +1,20 @@
 -- What the numbers answered say: at a stop the counts are zero and every lent byte stays (T4); at 0 nothing stops the call, and
 -- what follows is written. Assumes nothing.
-use mathlib.Core.Path.{_≡_, refl, sym}
+use mathlib.Core.Path.{_≡_, sym}
 use mathlib.Core.Bool.{true, false}
 use mathlib.Core.List.{List}
 use Prim.Native.Nat.{ℕ, _≤_, _<_}
 use lib.IntN.{ℤ}
 use lib.ListN.{length}
-use borrow.Author.Tests.{not-false, lt-ltb, le-ltb}
-use Rattle.theory.specs.First.{None, more, first, choose}
-use Rattle.theory.specs.laws.First.{first-clear, numbered}
+use borrow.Author.Tests.{lt-ltb, le-ltb}
+use Rattle.theory.specs.First.{first, choose}
 use Rattle.theory.specs.laws.Stopped.{at-stop, at-success, by-first, by-second}
-use Rattle.hgv.specs.Layout.{lengthHolds}
-use Rattle.header.specs.Header.{headerHolds}
 use Rattle.slots.specs.Slots.{slotsIn}
-use Rattle.register.specs.Register.{inOrder}
 use Rattle.provider.specs.Answer.{stopCounts, successCounts}
+use Rattle.copies.specs.Copy.{copyStops}
+use Rattle.copies.specs.laws.Sound.{copies-numbered}
 use Rattle.updating.specs.Sent.{sent}
-use Rattle.updating.specs.Update.{ownHolds, copyStops, copyFollowing, sentHolds, receiptStops, updateNumber, updateAnswer, copyWritten, copyAfter}
-
-copies : (mode : ℕ) (copy h : List ℕ) → numbered (copyStops mode copy h) ≡ true
-unfolding copyStops numbered
-copies mode copy h = refl
-
--- what the copy and the HGV have where no stop of theirs is given
-pub record Sound (copy h : List ℕ) : Type 0 where
-  pub ordered : inOrder copy ≡ true
-  pub sized : lengthHolds h ≡ true
-  pub headed : headerHolds h ≡ true
-  pub own : ownHolds copy h ≡ true
-
-pub copy-sound : (mode : ℕ) (copy h : List ℕ) → first (copyStops mode copy h) ≡ 0 → Sound copy h
-unfolding copyStops
-copy-sound mode copy h z = go (first-clear (copyStops mode copy h) (copies mode copy h) z)
-  where
-    go : None (copyStops mode copy h) → Sound copy h
-    go (more h₁ (more h₂ (more h₃ (more h₄ (more h₅ (more h₆ (more h₇ (more h₈ hs)))))))) =
-        record { ordered = not-false (inOrder copy) h₂; sized = not-false (lengthHolds h) h₃; headed = not-false (headerHolds h) h₄; own = not-false (ownHolds copy h) h₈ }
+use Rattle.updating.specs.Update.{copyFollowing, sentHolds, receiptStops, updateNumber, updateAnswer, copyWritten, copyAfter}
 
 module _ (mode : ℕ) (o : ℤ) (copy h g : List ℕ) where
   abbrev number : ℕ
@@ -43,12 +22,12 @@ module _ (mode : ℕ) (o : ℤ) (copy h g : List ℕ) where
 
   pub update-copy : (n : ℕ) → n ≡ first (copyStops mode copy h) → (n ≡ 0 → ⊥) → n ≡ number
   unfolding updateNumber
-  update-copy = by-first (copyStops mode copy h) (receiptStops (sent mode o h g) copy) (copies mode copy h)
+  update-copy = by-first (copyStops mode copy h) (receiptStops (sent mode o h g) copy) (copies-numbered mode copy h)
 
   module _ (z : first (copyStops mode copy h) ≡ 0) where
     update-behind : (n : ℕ) → n ≡ first (receiptStops (sent mode o h g) copy) → n ≡ number
     unfolding updateNumber
-    update-behind = by-second (copyStops mode copy h) (receiptStops (sent mode o h g) copy) (copies mode copy h) z
+    update-behind = by-second (copyStops mode copy h) (receiptStops (sent mode o h g) copy) (copies-numbered mode copy h) z
 
     pub update-52 : sentHolds (sent mode o h g) ≡ false → 52 ≡ number
     unfolding receiptStops first choose

@@ -15,7 +15,8 @@ use Rattle.receipts.specs.Receipt.{receptionOf, receiptHolds}
 use Rattle.slots.specs.Slots.{slotsIn}
 use Rattle.provider.specs.laws.Held.{received-held}
 use Rattle.updating.specs.Sent.{Sent}
-use Rattle.updating.specs.Update.{copyStops, receivedAt, copyFollowing, sentHolds, receiptStops, updateNumber, updateAnswer, copyWritten, copyAfter}
+use Rattle.copies.specs.Copy.{copyStops}
+use Rattle.updating.specs.Update.{receivedAt, copyFollowing, sentHolds, receiptStops, updateNumber, updateAnswer, copyWritten, copyAfter}
 use Rattle.updating.specs.Shown.{followingAs, numberAs, answerAs, copyAs}
 
 -- answer and copy by b and t

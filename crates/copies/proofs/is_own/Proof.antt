@@ -1,8 +1,8 @@
 -- Assumes nothing.
-use Rattle.updating.proofs.Laws.{own-is}
+use Rattle.copies.proofs.Laws.{own-is}
 use borrow.Author.Needs.{needs}
-use Rattle.updating.proofs.is_own.Statement.{statement}
-use Rattle.updating.proofs.is_own.Tie as tie
+use Rattle.copies.proofs.is_own.Statement.{statement}
+use Rattle.copies.proofs.is_own.Tie as tie
 
 returns : tie.Need-returns
 returns c = own-is _ _ _ _ (c .before .before .used-part .ensures) (c .before .sender .ensures) _ (c .count-of .ensures)

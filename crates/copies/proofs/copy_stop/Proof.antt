@@ -1,12 +1,12 @@
 -- One stop after the other. Assumes nothing.
 use Rattle.theory.specs.First.{first}
 use Rattle.theory.specs.laws.First.{chosen}
-use Rattle.updating.specs.Update.{copyStops}
+use Rattle.copies.specs.Copy.{copyStops}
 use mathlib.Core.Path.{refl, ap}
 use mathlib.Core.Bool.{not}
 use borrow.Author.Needs.{needs}
-use Rattle.updating.proofs.copy_stop.Statement.{statement}
-use Rattle.updating.proofs.copy_stop.Tie as tie
+use Rattle.copies.proofs.copy_stop.Statement.{statement}
+use Rattle.copies.proofs.copy_stop.Tie as tie
 
 returns : tie.Need-returns
 unfolding copyStops first

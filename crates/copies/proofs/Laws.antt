@@ -16,7 +16,7 @@ use Rattle.header.specs.Header.{sender}
 use Rattle.slots.specs.Slots.{slotsIn, slotsOf, records, usedPart}
 use Rattle.slots.specs.Search.{ofActor, countOf}
 use Rattle.slots.specs.laws.Slots.{slots-used, used-slots}
-use Rattle.updating.specs.Update.{ownHolds}
+use Rattle.copies.specs.Copy.{ownHolds}
 
 all-kept : (q : List ℕ → Bool) (xs : List (List ℕ)) → length (sift q xs) ≡ length xs → each q xs ≡ true
 unfolding each sift onto

@@ -1,0 +1,3 @@
+pub mod Copy
+pub mod Promises
+pub mod laws
