@@ -4,7 +4,6 @@ use mathlib.Core.Bool.{true, not}
 use mathlib.Core.List.{List, [], map}
 use Prim.Native.Nat.{ℕ}
 use borrow.Author.Tests.{eq-eqb}
-use Rattle.theory.specs.First.{first}
 use Rattle.theory.specs.laws.First.{numbered}
 use Rattle.theory.specs.laws.Stopped.{at-success, by-neither}
 use Rattle.theory.specs.laws.Each.{each-map}
