@@ -7,8 +7,8 @@ use Rattle.hgv.specs.Layout.{widthOf, linesIn, body}
 use Rattle.slots.specs.Slots.{records}
 use Rattle.verdicts.specs.Verdict.{fileVerdicts}
 use Rattle.verdicts.specs.laws.Verdict.{length-verdicts}
-use Rattle.judging.specs.Places.{placesOf}
-use Rattle.judging.specs.laws.Places.{places-told, length-places}
+use Rattle.flagging.specs.Places.{placesOf}
+use Rattle.flagging.specs.laws.Places.{places-told, length-places}
 use Rattle.applying.specs.Fit.{Sought}
 
 -- the places of all lines tell those of the taken ones

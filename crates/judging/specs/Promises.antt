@@ -5,7 +5,7 @@ use Prim.Native.Nat.{ℕ}
 use Rattle.slots.specs.Slots.{records}
 use Rattle.hgv.specs.Layout.{widthOf, linesIn, body}
 use Rattle.verdicts.specs.Verdict.{fileVerdicts}
-use Rattle.judging.specs.Places.{placesOf}
+use Rattle.flagging.specs.Places.{placesOf}
 
 -- a verdict for each line of the file h, and where its PAN stands among the records; what the index holds afterwards is left
 -- open

@@ -1,26 +1,19 @@
 // The verdicts of a file, as `verdicts` gives them, in near-linear time: where each line's PAN stands in the register, and
-// which line of the file is the first that has it, is found for all lines at once. L11 then looks at one slot, and L12 at one
-// flag.
+// which line of the file is the first that has it, is found for all lines at once; `flagging` judges the lines by both.
 ghost use mathlib.Core.Path.{_≡_};
-ghost use mathlib.Core.Bool.{true, _||_};
+ghost use mathlib.Core.Bool.{true};
 ghost use mathlib.Core.List.{map};
 ghost use Prim.Native.Nat.{_*_, _≤_};
 ghost use lib.ListN.{length, replicate};
-ghost use Rattle.theory.specs.First.{first, choose};
-ghost use Rattle.theory.specs.laws.First.{otherwise};
 ghost use Rattle.theory.specs.Parts.{chop};
-ghost use Rattle.theory.specs.Pick.{good, bad};
 ghost use Rattle.theory.specs.Distinct.{distinct};
 ghost use Rattle.sizes.specs.Sizes.{linesMost, slotsMost};
 ghost use Rattle.columns.specs.Columns.{panOf};
 ghost use Rattle.hgv.specs.Layout.{linesIn, lengthHolds};
 ghost use Rattle.slots.specs.Slots.{slotsIn, slotsOf};
-ghost use Rattle.slots.specs.Search.{placeOf};
 ghost use Rattle.register.specs.Register.{inOrder};
-ghost use Rattle.verdicts.specs.Verdict.{ownRules, verdictsOf};
-ghost use Rattle.judging.specs.Places.{placesOf};
-ghost use Rattle.judging.specs.laws.Held.{foreignAt};
-ghost use Rattle.judging.specs.laws.Firsts.{firstsOf};
+ghost use Rattle.verdicts.specs.Verdict.{verdictsOf};
+ghost use Rattle.flagging.specs.Places.{placesOf, firstsOf};
 ghost use Rattle.judging.specs.Promises.{Judge};
 
 // Where the PAN stands in a slot.
@@ -29,95 +22,6 @@ const PANS: keys::Keys = keys::Keys {
     from: columns::PAN_FROM,
     to: columns::PAN_TO,
 };
-
-fn wide(x: u16) -> usize
-    ensures { λ r. ⌜ r ≡ x ⌝ }
-{
-    x as usize
-}
-
-// Is there a slot at this place, and is it another actor's.
-fn is_foreign(held: &[u8], at: usize, who: &[u8]) -> bool
-    ensures { λ r. ⌜ r ≡ foreignAt (now (who .entry)) (slotsOf (now (held .entry))) at ⌝ }
-{
-    if held.len() / sizes::SLOT <= at {
-        return false;
-    }
-    !slots::is_of(texts::part(held, sizes::SLOT, at), who)
-}
-
-// The first of L1 to L11 that a line breaks. Its PAN stands at this place of the slots.
-fn own_fault(l: &[u8], sender: &[u8], rows: &[u8], held: &[u8], at: usize) -> u8
-    requires apart { ⌜ distinct (map panOf (slotsOf (now held))) ≡ true ⌝ }
-    requires placed { ⌜ at ≡ placeOf (panOf (now l)) (slotsOf (now held)) ⌝ }
-    ensures { λ r. ⌜ r ≡ first (ownRules (now (rows .entry)) (now (sender .entry)) (slotsOf (now (held .entry))) (now (l .entry))) ⌝ }
-{
-    let fault = lines::line_fault(l, sender, rows);
-    if fault != 0 {
-        return fault as u8;
-    }
-    if is_foreign(held, at, sender) {
-        return 4;
-    }
-    0
-}
-
-// Its verdict. The flag is not 0 where a line that was taken before it has its PAN.
-fn verdict_by(l: &[u8], sender: &[u8], rows: &[u8], held: &[u8], at: usize, flag: u8) -> u8
-    requires apart { ⌜ distinct (map panOf (slotsOf (now held))) ≡ true ⌝ }
-    requires placed { ⌜ at ≡ placeOf (panOf (now l)) (slotsOf (now held)) ⌝ }
-    ensures { λ r. ⌜ r ≡ otherwise (first (ownRules (now (rows .entry)) (now (sender .entry)) (slotsOf (now (held .entry))) (now (l .entry)))) (choose (bad flag) 1 0) ⌝ }
-{
-    let fault = own_fault(l, sender, rows, held, at);
-    if fault != 0 {
-        return fault;
-    }
-    if flag != 0 {
-        return 1;
-    }
-    0
-}
-
-// The flag of a PAN, after a line that has it got this verdict.
-fn flag_after(flag: u8, verdict: u8) -> u8
-    ensures { λ r. ⌜ bad r ≡ bad flag || good verdict ⌝ }
-{
-    if verdict == 0 {
-        return 1;
-    }
-    flag
-}
-
-// A verdict for each of the lines, by the places that were found. The flag of a PAN stands at the first line that has it.
-fn judge_placed(
-    lines: &[u8],
-    width: usize,
-    sender: &[u8],
-    rows: &[u8],
-    held: &[u8],
-    found: &[u16],
-    firsts: &[u16],
-    flags: &mut [u8],
-    verdicts: &mut [u8],
-)
-    requires lined { ⌜ length (now verdicts) * width ≤ length (now lines) ⌝ }
-    requires apart { ⌜ distinct (map panOf (slotsOf (now held))) ≡ true ⌝ }
-    requires placed { ⌜ now found ≡ placesOf (slotsOf (now held)) width (now lines) (length (now verdicts)) ⌝ }
-    requires first { ⌜ now firsts ≡ firstsOf width (now lines) (length (now verdicts)) ⌝ }
-    requires unflagged { ⌜ now flags ≡ replicate (length (now verdicts)) 0 ⌝ }
-    ensures { λ _. ⌜ now (verdicts .exit) ≡ verdictsOf (now (rows .entry)) (now (sender .entry)) (slotsOf (now (held .entry))) (chop width (length (now (verdicts .entry))) (now (lines .entry))) ⌝ }
-{
-    let mut i: usize = 0;
-    while i < verdicts.len() {
-        let first = wide(firsts[i]);
-        let at = wide(found[i]);
-        let flag = flags[first];
-        let v = verdict_by(texts::part(lines, width, i), sender, rows, held, at, flag);
-        verdicts[i] = v;
-        flags[first] = flag_after(flag, v);
-        i += 1;
-    }
-}
 
 // Where the PAN of each line stands among the slots, and the first line that has it. No line is marked, so each is looked
 // for.
@@ -174,7 +78,7 @@ fn judge_found(
     ensures placed { λ _. ⌜ now (found .exit) ≡ placesOf (slotsOf (now (held .entry))) width (now (lines .entry)) (length (now (verdicts .entry))) ⌝ }
 {
     find_both(held, lines, width, flags, index, found, firsts);
-    judge_placed(
+    flagging::judge_placed(
         lines,
         width,
         sender,

@@ -1,9 +1,9 @@
 -- Assumes nothing.
 use borrow.Author.Needs.{needs}
 use native.Mathlib.Omega.{arith}
-use Rattle.judging.proofs.Laws.{foreign-none, foreign-slot}
-use Rattle.judging.proofs.is_foreign.Statement.{statement}
-use Rattle.judging.proofs.is_foreign.Tie as tie
+use Rattle.flagging.proofs.Laws.{foreign-none, foreign-slot}
+use Rattle.flagging.proofs.is_foreign.Statement.{statement}
+use Rattle.flagging.proofs.is_foreign.Tie as tie
 
 returns : tie.Need-returns
 returns c = foreign-none _ _ _ (c .if1 .taken)

@@ -11,7 +11,6 @@ use Rattle.theory.specs.laws.Join.{getD-chop}
 use Rattle.theory.specs.laws.Place.{place-hit, place-before}
 use Rattle.columns.specs.Columns.{panOf}
 use Rattle.slots.specs.Search.{holdsPan, placeOf}
-use Rattle.judging.specs.Places.{placesOf}
 
 -- the PAN of the line at the place i
 unfoldable pub panAt : ℕ → List ℕ → ℕ → List ℕ
@@ -20,10 +19,6 @@ panAt width lines i = panOf (partAt width i lines)
 -- of the line at the place i, the first of n lines that has its PAN
 unfoldable pub firstAt : ℕ → List ℕ → ℕ → ℕ → ℕ
 firstAt width lines n i = placeOf (panAt width lines i) (chop width n lines)
-
--- of each of n lines
-abbrev pub firstsOf : ℕ → List ℕ → ℕ → List ℕ
-firstsOf width lines n = placesOf (chop width n lines) width lines n
 
 -- where one passes, the first that does is not behind it
 module _ (width : ℕ) (lines : List ℕ) (n : ℕ) where

@@ -7,7 +7,7 @@ use Rattle.theory.specs.Parts.{partAt}
 use Rattle.theory.specs.laws.Table.{entry, length-table}
 use Rattle.columns.specs.Columns.{panOf}
 use Rattle.slots.specs.Search.{placeOf}
-use Rattle.judging.specs.Places.{placesOf}
+use Rattle.flagging.specs.Places.{placesOf}
 
 module _ (R : List (List ℕ)) (width : ℕ) (lines : List ℕ) (n : ℕ) (found : List ℕ) (e : found ≡ placesOf R width lines n) where
   abbrev at : ℕ → ℕ

@@ -1,8 +1,8 @@
 -- Assumes nothing.
 use borrow.Author.Needs.{needs}
-use Rattle.judging.proofs.Laws.{own-stands, flag-named, flag-none}
-use Rattle.judging.proofs.verdict_by.Statement.{statement}
-use Rattle.judging.proofs.verdict_by.Tie as tie
+use Rattle.flagging.proofs.Laws.{own-stands, flag-named, flag-none}
+use Rattle.flagging.proofs.verdict_by.Statement.{statement}
+use Rattle.flagging.proofs.verdict_by.Tie as tie
 
 returns : tie.Need-returns
 returns c = own-stands _ _ _ (c .before .own-fault .ensures) (c .if1 .taken)

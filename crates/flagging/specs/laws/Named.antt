@@ -18,7 +18,7 @@ use Rattle.theory.specs.laws.Join.{chop-snoc}
 use Rattle.theory.specs.Pick.{good, bad, pick}
 use Rattle.theory.specs.laws.Pick.{pick-next, pick-take}
 use Rattle.slots.specs.Search.{holdsPan}
-use Rattle.judging.specs.laws.Firsts.{panAt, firstAt, first-within, same-first, first-same}
+use Rattle.flagging.specs.laws.Firsts.{panAt, firstAt, first-within, same-first, first-same}
 
 -- a taken line among the first i has this PAN
 unfoldable pub named : ℕ → List ℕ → List ℕ → ℕ → List ℕ → Bool

@@ -6,9 +6,9 @@ use borrow.Author.Needs.{needs}
 use lib.ListN.{length}
 use Rattle.theory.specs.laws.Parts.{part-fits}
 use Rattle.slots.specs.Slots.{slotsOf}
-use Rattle.judging.proofs.Laws.{Walking, walking-start, walking-read, walking-place, walking-flag, walking-turn, walking-end, flags-kept}
-use Rattle.judging.proofs.judge_placed.Statement.{statement}
-use Rattle.judging.proofs.judge_placed.Tie as tie
+use Rattle.flagging.proofs.Laws.{Walking, walking-start, walking-read, walking-place, walking-flag, walking-turn, walking-end, flags-kept}
+use Rattle.flagging.proofs.judge_placed.Statement.{statement}
+use Rattle.flagging.proofs.judge_placed.Tie as tie
 
 abbrev Inv-loop : tie.InvT-loop
 Inv-loop lines width sender rows held found firsts flags₀ verdicts₀ i₀ flags verdicts i = Walking rows sender (slotsOf held) width lines (length verdicts₀) i flags verdicts

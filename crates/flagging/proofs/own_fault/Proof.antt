@@ -2,9 +2,9 @@
 use borrow.Author.Needs.{needs}
 use Rattle.theory.specs.First.{choose}
 use Rattle.verdicts.proofs.Laws.{own-line, fault-most}
-use Rattle.judging.proofs.Laws.{own-placed}
-use Rattle.judging.proofs.own_fault.Statement.{statement}
-use Rattle.judging.proofs.own_fault.Tie as tie
+use Rattle.flagging.proofs.Laws.{own-placed}
+use Rattle.flagging.proofs.own_fault.Statement.{statement}
+use Rattle.flagging.proofs.own_fault.Tie as tie
 
 cast-result : tie.Need-cast-result
 cast-result c = let m = fault-most _ _ _ _ (c .before .line-fault .ensures) in search needs

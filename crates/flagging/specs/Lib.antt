@@ -1,0 +1,3 @@
+pub mod Places
+pub mod Promises
+pub mod laws
