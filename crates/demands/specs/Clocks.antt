@@ -17,7 +17,8 @@ use Rattle.times.specs.laws.Order.{byte-order}
 use Rattle.times.specs.laws.Back.{at-real, at-seconds, at-its-seconds}
 use Rattle.offsets.specs.Offset.{local, utc, receptionHolds, utcHolds}
 use Rattle.offsets.specs.laws.Shift.{local-back, local-utc}
-use Rattle.receipts.specs.Receipt.{receptionOf, receiptHolds}
+use Rattle.answers.specs.Layout.{receptionOf}
+use Rattle.receipts.specs.Receipt.{receiptHolds}
 use Rattle.imports.specs.declared.Imported.{Imported}
 use Rattle.imports.specs.Handed.{Handed, at}
 use Rattle.imports.specs.Shown.{answerAs, registerAs, hgcAs}

@@ -20,7 +20,8 @@ use Rattle.imports.specs.declared.Imported.{Imported}
 use Rattle.imports.specs.Handed.{Handed}
 use Rattle.imports.specs.Promises.{Import}
 use Rattle.offsets.specs.Offset.{utc}
-use Rattle.receipts.specs.Receipt.{listOf, receptionOf, takenBy}
+use Rattle.answers.specs.Layout.{listOf, receptionOf}
+use Rattle.receipts.specs.Receipt.{takenBy}
 use Rattle.provider.specs.declared.Counted.{Counted}
 use Rattle.updating.specs.Sent.{Sent}
 use Rattle.updating.specs.Promises.{Update}

@@ -30,8 +30,9 @@ use Rattle.pairing.specs.Backwards.{isLast, lower, waiting, paired}
 use Rattle.pairing.specs.laws.Backwards.{pairsUp, length-paired}
 use Rattle.theory.specs.Firsts.{firsts}
 use Rattle.pairing.specs.laws.Turns.{Pairs, pairs-turn, lower-hit, lower-miss, last-some}
-use Rattle.receipts.specs.Receipt.{answersIn, behindHead, takenOf, rejectedOf, textsOf, copiesOf, marksOf, takenBy, copiesHold, countsHold, lineHolds, takenHold, linesHold}
-use Rattle.receipts.specs.laws.Receipt.{answers-room, answers-are}
+use Rattle.answers.specs.Layout.{answersIn, behindHead, takenOf, rejectedOf}
+use Rattle.receipts.specs.Receipt.{textsOf, copiesOf, marksOf, takenBy, copiesHold, countsHold, lineHolds, takenHold, linesHold}
+use Rattle.answers.specs.laws.Layout.{answers-room, answers-are}
 use Rattle.matching.specs.laws.Texts.{textsIn}
 use Rattle.matching.specs.laws.Matching.{copies-pair, pair-marks, taken-count}
 

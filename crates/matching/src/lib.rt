@@ -18,7 +18,8 @@ ghost use Rattle.hgv.specs.laws.Layout.{IsWidth};
 ghost use Rattle.hgc.specs.Confirmation.{answerLength};
 ghost use Rattle.theory.specs.Firsts.{firsts};
 ghost use Rattle.pairing.specs.Backwards.{isLast, waiting, paired};
-ghost use Rattle.receipts.specs.Receipt.{takenOf, rejectedOf, textsOf, copiesOf, copiesHold, lineHolds};
+ghost use Rattle.answers.specs.Layout.{takenOf, rejectedOf};
+ghost use Rattle.receipts.specs.Receipt.{textsOf, copiesOf, copiesHold, lineHolds};
 ghost use Rattle.matching.specs.laws.Texts.{textsIn};
 ghost use Rattle.matching.specs.Promises.{LinesHold};
 
@@ -146,8 +147,8 @@ fn copies_hold(hgv: &[u8], hgc: &[u8], marks: &mut [u8]) -> bool
 {
     let lines = hgv::body(hgv);
     let width = hgv::width(hgv);
-    let n = receipts::answers_in(hgv, hgc);
-    let waiting = pair(lines, width, receipts::answers(hgc), n, marks);
+    let n = answers::answers_in(hgv, hgc);
+    let waiting = pair(lines, width, answers::answers(hgc), n, marks);
     (waiting == 0) & are_firsts(lines, width, marks)
 }
 
@@ -163,7 +164,7 @@ pub fn lines_hold(hgv: &[u8], hgc: &[u8], marks: &mut [u8]) -> bool
         & has_counts(
             hgc,
             taken::count_taken(marks),
-            receipts::answers_in(hgv, hgc),
+            answers::answers_in(hgv, hgc),
         )
         & are_apart(lines, width, marks)
         & each_holds(hgv, lines, width, marks)

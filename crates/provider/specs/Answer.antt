@@ -3,7 +3,8 @@
 use Prim.Native.Nat.{ℕ}
 use mathlib.Core.List.{List}
 use lib.ListN.{length}
-use Rattle.receipts.specs.Receipt.{answersIn, takenBy}
+use Rattle.answers.specs.Layout.{answersIn}
+use Rattle.receipts.specs.Receipt.{takenBy}
 use Rattle.provider.specs.declared.Counted.{Counted}
 
 -- a stop has zero counts

@@ -28,7 +28,7 @@ pub fn count(hgv: &[u8], hgc: &[u8], marks: &[u8]) -> Counted
     ensures { λ r. ⌜ Count (now (hgv .entry)) (now (hgc .entry)) (now (marks .entry)) r ⌝ }
 {
     let taken = taken::count_taken(marks);
-    let rejected = receipts::answers_in(hgv, hgc) as u64;
+    let rejected = answers::answers_in(hgv, hgc) as u64;
     Counted {
         number: 0,
         taken,

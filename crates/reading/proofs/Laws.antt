@@ -25,9 +25,10 @@ use Rattle.numbers.specs.Number.{numberAfter, number}
 use Rattle.hgv.specs.Layout.{widthOf}
 use Rattle.hgc.specs.Confirmation.{answerLength}
 use Rattle.pairing.specs.laws.Telling.{toldAt, told-left}
-use Rattle.receipts.specs.Receipt.{answersIn, behindHead, answersOf, reasonOf, reasonHolds}
+use Rattle.answers.specs.Layout.{answersIn, behindHead, answersOf, reasonOf}
+use Rattle.receipts.specs.Receipt.{reasonHolds}
 use Rattle.reading.specs.ReadBack.{reasonsOf}
-use Rattle.receipts.specs.laws.Receipt.{answers-room, answers-are}
+use Rattle.answers.specs.laws.Layout.{answers-room, answers-are}
 
 -- ---- a reason
 

@@ -13,7 +13,8 @@ use Rattle.header.specs.Header.{headerHolds}
 use Rattle.claims.specs.Claims.{versionHolds, receiverHolds, countHolds}
 use Rattle.numbers.specs.Number.{number}
 use Rattle.pairing.specs.Pairing.{told}
-use Rattle.receipts.specs.Receipt.{answersOf, reasonOf, marksOf, receiptHolds}
+use Rattle.answers.specs.Layout.{answersOf, reasonOf}
+use Rattle.receipts.specs.Receipt.{marksOf, receiptHolds}
 use Rattle.provider.specs.declared.Counted.{Counted}
 use Rattle.provider.specs.Answer.{stopCounts, successCounts}
 

@@ -12,7 +12,8 @@ ghost use Rattle.theory.specs.Tally.{tally};
 ghost use Rattle.hgv.specs.Layout.{widthOf, linesIn};
 ghost use Rattle.pairing.specs.Pairing.{told};
 ghost use Rattle.pairing.specs.laws.Telling.{toldAt};
-ghost use Rattle.receipts.specs.Receipt.{answersIn, answersOf, reasonHolds};
+ghost use Rattle.answers.specs.Layout.{answersIn, answersOf};
+ghost use Rattle.receipts.specs.Receipt.{reasonHolds};
 ghost use Rattle.reading.specs.ReadBack.{reasonsOf, hgvStops};
 ghost use Rattle.reading.specs.Promises.{ReadBack};
 
@@ -47,7 +48,7 @@ fn verdict_at(hgv: &[u8], hgc: &[u8], k: usize, mark: u8) -> u8
     if mark == 0 {
         return 0;
     }
-    let a = texts::part(receipts::answers(hgc), receipts::width(hgv), k);
+    let a = texts::part(answers::answers(hgc), answers::width(hgv), k);
     let from = hgv::width(hgv);
     numbers::number(texts::field(a, from, from + sizes::REASON - 1)) as u8
 }

@@ -2,12 +2,10 @@
 use mathlib.Core.Path.{_≡_, refl, sym, _∙_}
 use mathlib.Core.Bool.{Bool, true, false, _&&_}
 use mathlib.Core.List.{List, [], _∷_}
-use Prim.Native.Nat.{ℕ, zero, suc, _-_, _/_, _%_, _<_, _≤_}
+use Prim.Native.Nat.{ℕ, zero, suc, _-_, _%_, _<_, _≤_}
 use native.Mathlib.Omega.{arith}
-use native.Mathlib.Nat.{zero-div}
 use lib.Dec.{eqb}
-use lib.ListN.{length, take, drop, length-drop, drop-of-length-le}
-use lib.Seq.{take-all}
+use lib.ListN.{length}
 use borrow.Author.Tests.{le-leb, lt-leb}
 use Rattle.theory.specs.laws.Truth.{and-true, and-none}
 use Rattle.theory.specs.Text.{bytes}
@@ -16,15 +14,10 @@ use Rattle.theory.specs.Walk.{each}
 use Rattle.texts.specs.Field.{field}
 use Rattle.hgv.specs.Layout.{widthOf}
 use Rattle.hgc.specs.Confirmation.{answerLength, outcome}
-use Rattle.sizes.specs.Sizes.{hgcHeaderLength}
 use Rattle.times.specs.Time.{realTime}
 use Rattle.frames.specs.Frames.{footerHolds}
+use Rattle.answers.specs.Layout.{bareLength, answersIn, answersOf, receptionOf}
 use Rattle.receipts.specs.Receipt.{
-  bareLength,
-  answersIn,
-  behindHead,
-  answersOf,
-  receptionOf,
   lengthForm,
   headForm,
   answerForm,
@@ -35,26 +28,8 @@ use Rattle.receipts.specs.Receipt.{
   saysHold,
 }
 
-module _ (g : List ℕ) where
-  -- the lines as the code lends them
-  pub lines-none : length g < hgcHeaderLength → take 0 (drop 0 g) ≡ behindHead g
-  unfolding behindHead
-  lines-none l = sym (drop-of-length-le g {i = hgcHeaderLength} (omega arith))
-
-  pub lines-lent : take (length g - hgcHeaderLength) (drop hgcHeaderLength g) ≡ behindHead g
-  unfolding behindHead
-  lines-lent = take-all (length g - hgcHeaderLength) (drop hgcHeaderLength g) (rw length-drop (omega arith))
-
 module _ (h g : List ℕ) where
   -- a text too short for header and footer
-  pub answers-short : length g < bareLength → 0 ≡ answersIn h g
-  unfolding answersIn
-  answers-short l = let z : length g - bareLength ≡ 0 = omega arith in sym (rw (z, zero-div (answerLength (widthOf h))))
-
-  pub answers-long : (w : ℕ) → w ≡ answerLength (widthOf h) → (length g - bareLength) / w ≡ answersIn h g
-  unfolding answersIn
-  answers-long w e = rw e
-
   pub length-short : length g < bareLength → false ≡ lengthForm h g
   unfolding lengthForm
   length-short l = sym (rw (lt-leb bareLength (length g) (omega arith)))

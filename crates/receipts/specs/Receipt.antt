@@ -1,14 +1,13 @@
 -- The HGC beside its HGV, as a provider reads it: its form, and its lines against the HGV's, clause by clause as the
 -- definition lists them under 52. h is the HGV, g the HGC, w the width of the HGV's lines. Assumes nothing.
-use Prim.Native.Nat.{ℕ, _+_, _-_, _/_, _%_}
+use Prim.Native.Nat.{ℕ, _-_, _%_}
 use mathlib.Core.Bool.{Bool, true, false, _&&_}
 use mathlib.Core.List.{List, [], _∷_, map}
 use lib.Dec.{eqb, leb}
-use lib.ListN.{length, drop}
+use lib.ListN.{length}
 use Rattle.theory.specs.Text.{bytes}
 use Rattle.theory.specs.Same.{eqs}
 use Rattle.theory.specs.Every.{run}
-use Rattle.theory.specs.Parts.{chop}
 use Rattle.theory.specs.Walk.{each}
 use Rattle.theory.specs.Pick.{good, pick}
 use Rattle.theory.specs.Distinct.{distinct}
@@ -20,44 +19,11 @@ use Rattle.columns.specs.Columns.{text, panOf}
 use Rattle.lines.specs.Rules.{recordHolds}
 use Rattle.slots.specs.Search.{ofActor}
 use Rattle.hgv.specs.Layout.{widthOf, linesOf}
-use Rattle.sizes.specs.Sizes.{footerLength, hgcHeaderLength}
 use Rattle.frames.specs.Frames.{footerHolds}
 use Rattle.header.specs.Header.{sender, listSequence}
 use Rattle.hgc.specs.Confirmation.{answerLength, outcome}
 use Rattle.pairing.specs.Pairing.{marks, left}
-
--- ---- its layout
-
--- what an HGC has beside its lines
-abbrev pub bareLength : ℕ
-bareLength = hgcHeaderLength + footerLength
-
--- the number of its lines, r
-unfoldable pub answersIn : List ℕ → List ℕ → ℕ
-answersIn h g = (length g - bareLength) / answerLength (widthOf h)
-
--- what stands behind the header: its lines, and the footer
-unfoldable pub behindHead : List ℕ → List ℕ
-behindHead g = drop hgcHeaderLength g
-
-unfoldable pub answersOf : List ℕ → List ℕ → List (List ℕ)
-answersOf h g = chop (answerLength (widthOf h)) (answersIn h g) (behindHead g)
-
-abbrev pub listOf : List ℕ → List ℕ
-listOf g = field 14 32 g
-
-abbrev pub receptionOf : List ℕ → List ℕ
-receptionOf g = field 33 46 g
-
-abbrev pub takenOf : List ℕ → List ℕ
-takenOf g = field 47 61 g
-
-abbrev pub rejectedOf : List ℕ → List ℕ
-rejectedOf g = field 62 76 g
-
--- 128-129 where the HGV's lines have 128
-abbrev pub reasonOf : ℕ → List ℕ → List ℕ
-reasonOf w a = field w (w + 1) a
+use Rattle.answers.specs.Layout.{bareLength, answersIn, answersOf, listOf, receptionOf, takenOf, rejectedOf, reasonOf}
 
 -- ---- its form
 

@@ -1,4 +1,3 @@
-pub mod Receipt
 pub mod HeadCoverage
 pub mod Written
 pub mod Outcomes

@@ -1,63 +1,21 @@
-// The HGC as a provider reads it: its layout, and what it says by itself and of its HGV (the first half of 52). Every public
-// function takes texts of any length.
+// The HGC as a provider reads it: what it says by itself and of its HGV (the first half of 52), for texts of any length.
 use hgc::places;
 ghost use mathlib.Core.Path.{_≡_};
 ghost use mathlib.Core.Bool.{_&&_};
 ghost use Rattle.hgv.specs.Layout.{widthOf};
 ghost use Rattle.hgv.specs.laws.Layout.{IsWidth};
 ghost use Rattle.theory.specs.Walk.{each};
-ghost use Rattle.receipts.specs.Receipt.{answersOf, lengthForm, headForm, answerForm, namesHold, outcomeHolds, reasonHolds};
-ghost use Rattle.receipts.specs.Promises.{Width, AnswersIn, Answers, ListSequence, Reception, Says};
-
-// Header and footer.
-const BARE: usize = sizes::HGC_HEADER + sizes::FOOTER;
-
-// How wide its lines are: wider than the HGV's by the reason.
-pub fn width(hgv: &[u8]) -> usize
-    ensures { λ r. ⌜ Width (now (hgv .entry)) r ⌝ }
-{
-    hgv::width(hgv) + sizes::REASON
-}
-
-// How many lines it has.
-pub fn answers_in(hgv: &[u8], hgc: &[u8]) -> usize
-    ensures { λ r. ⌜ AnswersIn (now (hgv .entry)) (now (hgc .entry)) r ⌝ }
-{
-    if hgc.len() < BARE {
-        return 0;
-    }
-    (hgc.len() - BARE) / width(hgv)
-}
-
-// Its lines, and what stands behind them.
-pub fn answers<'a>(hgc: &'a [u8]) -> &'a [u8]
-    ensures { λ r. ⌜ Answers (now (hgc .entry)) (now r) ⌝ }
-{
-    if hgc.len() < sizes::HGC_HEADER {
-        return &hgc[0..0];
-    }
-    &hgc[sizes::HGC_HEADER..]
-}
-
-pub fn list_sequence<'a>(hgc: &'a [u8]) -> &'a [u8]
-    ensures { λ r. ⌜ ListSequence (now (hgc .entry)) (now r) ⌝ }
-{
-    texts::field(hgc, places::SEQUENCE_FROM, places::SEQUENCE_TO)
-}
-
-pub fn reception<'a>(hgc: &'a [u8]) -> &'a [u8]
-    ensures { λ r. ⌜ Reception (now (hgc .entry)) (now r) ⌝ }
-{
-    texts::field(hgc, places::RECEPTION_FROM, places::RECEPTION_TO)
-}
+ghost use Rattle.answers.specs.Layout.{answersOf};
+ghost use Rattle.receipts.specs.Receipt.{lengthForm, headForm, answerForm, namesHold, outcomeHolds, reasonHolds};
+ghost use Rattle.receipts.specs.Promises.{Says};
 
 fn has_length(hgv: &[u8], hgc: &[u8]) -> bool
     ensures { λ r. ⌜ r ≡ lengthForm (now (hgv .entry)) (now (hgc .entry)) ⌝ }
 {
-    if hgc.len() < BARE {
+    if hgc.len() < answers::BARE {
         return false;
     }
-    (hgc.len() - BARE) % width(hgv) == 0
+    (hgc.len() - answers::BARE) % answers::width(hgv) == 0
 }
 
 fn has_head(hgc: &[u8]) -> bool
@@ -96,10 +54,10 @@ fn is_answer(a: &[u8], width: usize) -> bool
 fn each_is_answer(hgv: &[u8], hgc: &[u8]) -> bool
     ensures { λ r. ⌜ r ≡ each (λ a. answerForm (widthOf (now (hgv .entry))) a && reasonHolds (widthOf (now (hgv .entry))) a) (answersOf (now (hgv .entry)) (now (hgc .entry))) ⌝ }
 {
-    let lines = answers(hgc);
-    let n = answers_in(hgv, hgc);
+    let lines = answers::answers(hgc);
+    let n = answers::answers_in(hgv, hgc);
     let sent = hgv::width(hgv);
-    let wide = width(hgv);
+    let wide = answers::width(hgv);
     let mut i: usize = 0;
     while i < n {
         if !is_answer(texts::part(lines, wide, i), sent) {
@@ -116,13 +74,13 @@ fn has_names(hgv: &[u8], hgc: &[u8]) -> bool
     let sender = header::sender(hgv);
     let sequence = header::list_sequence(hgv);
     texts::has_text(hgc, places::RECEIVER_FROM, places::RECEIVER_TO, sender)
-        & texts::same(list_sequence(hgc), sequence)
+        & texts::same(answers::list_sequence(hgc), sequence)
 }
 
 fn has_outcome(hgv: &[u8], hgc: &[u8]) -> bool
     ensures { λ r. ⌜ r ≡ outcomeHolds (now (hgv .entry)) (now (hgc .entry)) ⌝ }
 {
-    if answers_in(hgv, hgc) == 0 {
+    if answers::answers_in(hgv, hgc) == 0 {
         return texts::has_text(hgc, places::OUTCOME_FROM, places::OUTCOME_TO, b"00");
     }
     texts::has_text(hgc, places::OUTCOME_FROM, places::OUTCOME_TO, b"01")
@@ -137,6 +95,6 @@ pub fn says(hgv: &[u8], hgc: &[u8]) -> bool
         & each_is_answer(hgv, hgc)
         & frames::has_footer(hgc)
         & has_names(hgv, hgc)
-        & times::is_real_time(reception(hgc))
+        & times::is_real_time(answers::reception(hgc))
         & has_outcome(hgv, hgc)
 }

@@ -37,7 +37,8 @@ use Rattle.holdings.specs.laws.Places.{places-tell, length-places}
 use Rattle.upkeep.specs.Holds.{Holds}
 use Rattle.applying.specs.Fit.{Fit, Sought}
 use Rattle.pairing.specs.Backwards.{paired}
-use Rattle.receipts.specs.Receipt.{listOf, receptionOf, textsOf, copiesOf, marksOf, takenBy, receiptHolds}
+use Rattle.answers.specs.Layout.{listOf, receptionOf}
+use Rattle.receipts.specs.Receipt.{textsOf, copiesOf, marksOf, takenBy, receiptHolds}
 use Rattle.provider.specs.declared.Counted.{Counted}
 use Rattle.provider.specs.Answer.{stopCounts, successCounts}
 use Rattle.updating.specs.Sent.{sent}

@@ -15,7 +15,8 @@ use Rattle.stamps.specs.Stamp.{stamp}
 use Rattle.records.specs.Slot.{slotOf}
 use Rattle.slots.specs.Slots.{slotsIn, records}
 use Rattle.holdings.specs.Holdings.{holdings}
-use Rattle.receipts.specs.Receipt.{listOf, takenBy}
+use Rattle.answers.specs.Layout.{listOf}
+use Rattle.receipts.specs.Receipt.{takenBy}
 use Rattle.provider.specs.declared.Counted.{Counted}
 use Rattle.provider.specs.Answer.{stopCounts, successCounts}
 use Rattle.updating.specs.Sent.{Sent}

@@ -17,7 +17,8 @@ use Rattle.slots.specs.Slots.{slotsIn, records}
 use Rattle.holdings.specs.Holdings.{holdings}
 use Rattle.offsets.specs.Offset.{utc, utcHolds}
 use Rattle.copies.specs.Copy.{copyStops}
-use Rattle.receipts.specs.Receipt.{listOf, receptionOf, takenBy, receiptHolds}
+use Rattle.answers.specs.Layout.{listOf, receptionOf}
+use Rattle.receipts.specs.Receipt.{takenBy, receiptHolds}
 use Rattle.provider.specs.declared.Counted.{Counted}
 use Rattle.provider.specs.Answer.{stopCounts, successCounts}
 use Rattle.updating.specs.Sent.{Sent}

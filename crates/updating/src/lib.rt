@@ -37,9 +37,9 @@ fn update_marked(
     if copy.len() / sizes::SLOT < used {
         return provider::refused(33);
     }
-    let list = receipts::list_sequence(hgc);
+    let list = answers::list_sequence(hgc);
     let mut reception = [0u8; sizes::TIME];
-    offsets::write_utc(&mut reception, receipts::reception(hgc), ahead);
+    offsets::write_utc(&mut reception, answers::reception(hgc), ahead);
     applying::apply(
         mode,
         copy,
@@ -70,7 +70,7 @@ fn update_lines(
     requires many { ⌜ length (now found) ≡ linesIn (now hgv) ⌝ }
     ensures { λ r. ⌜ Update (sent mode (offsetOf ahead) (now (hgv .entry)) (now (hgc .entry))) (now (copy .entry)) r (now (copy .exit)) ⌝ }
 {
-    let shown = receipts::reception(hgc);
+    let shown = answers::reception(hgc);
     if !(provider::is_receipt(hgv, hgc, marks) & offsets::has_utc(shown, ahead)) {
         return provider::refused(52);
     }

@@ -60,7 +60,8 @@ use Rattle.imports.specs.Import.{judged, following, refusal, registerWritten}
 use Rattle.imports.specs.Shown.{confirmedAs, stopsAs, numberAs, answerAs, registerAs, hgcAs}
 use Rattle.imports.specs.declared.Imported.{Imported}
 use Rattle.pairing.specs.Pairing.{isTaken, marksFrom, marks, left}
-use Rattle.receipts.specs.Receipt.{answersIn, behindHead, answersOf, lengthForm, headForm, answerForm, formHolds, namesHold, outcomeHolds, reasonHolds, textsOf, copiesOf, marksOf, takenBy, sameTexts, copiesHold, countsHold, lineHolds, takenHold, saysHold, linesHold, receptionOf, receiptHolds}
+use Rattle.answers.specs.Layout.{answersIn, behindHead, answersOf, receptionOf}
+use Rattle.receipts.specs.Receipt.{lengthForm, headForm, answerForm, formHolds, namesHold, outcomeHolds, reasonHolds, textsOf, copiesOf, marksOf, takenBy, sameTexts, copiesHold, countsHold, lineHolds, takenHold, saysHold, linesHold, receiptHolds}
 use Rattle.provider.specs.declared.Counted.{Counted}
 use Rattle.provider.specs.Answer.{stopCounts, successCounts}
 use Rattle.updating.specs.Sent.{Sent, sent}

@@ -19,7 +19,8 @@ use Rattle.times.specs.laws.Almanac.{secondsBy, seconds-by}
 use Rattle.offsets.specs.Offset.{offsetHolds, local, utc, receptionHolds, utcHolds}
 use Rattle.offsets.specs.Ahead.{aheadOf}
 use Rattle.offsets.specs.laws.Shift.{shown-is, local-back, local-utc}
-use Rattle.receipts.specs.Receipt.{receptionOf, receiptHolds}
+use Rattle.answers.specs.Layout.{receptionOf}
+use Rattle.receipts.specs.Receipt.{receiptHolds}
 use Rattle.provider.specs.declared.Counted.{Counted}
 use Rattle.slots.specs.Slots.{records}
 use Rattle.imports.specs.declared.Imported.{Imported}

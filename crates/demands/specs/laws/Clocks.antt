@@ -14,7 +14,8 @@ use Rattle.weights.specs.Weights.{weightHolds}
 use Rattle.hgc.specs.Confirmation.{head, confirmation}
 use Rattle.offsets.specs.Offset.{local, utc, receptionHolds}
 use Rattle.offsets.specs.laws.Shift.{local-real, local-minutes, local-back}
-use Rattle.receipts.specs.Receipt.{receptionOf, receiptHolds}
+use Rattle.answers.specs.Layout.{receptionOf}
+use Rattle.receipts.specs.Receipt.{receiptHolds}
 use Rattle.imports.specs.declared.Imported.{Imported}
 use Rattle.imports.specs.Handed.{Handed, at}
 use Rattle.imports.specs.Import.{following, registerWritten}

@@ -26,7 +26,8 @@ use Rattle.hgc.specs.laws.Fields.{reasons-answers}
 use Rattle.imports.specs.Handed.{Handed}
 use Rattle.pairing.specs.laws.Pairing.{mark, pick-marked, told-is}
 use Rattle.pairing.specs.laws.Firsts.{marks-is, left-is}
-use Rattle.receipts.specs.Receipt.{answersIn, answersOf, receptionOf, takenOf, rejectedOf, reasonOf, reasonHolds, textsOf, marksOf, takenBy, copiesHold, countsHold, lineHolds, takenHold, saysHold, linesHold, receiptHolds}
+use Rattle.answers.specs.Layout.{answersIn, answersOf, receptionOf, takenOf, rejectedOf, reasonOf}
+use Rattle.receipts.specs.Receipt.{reasonHolds, textsOf, marksOf, takenBy, copiesHold, countsHold, lineHolds, takenHold, saysHold, linesHold, receiptHolds}
 use Rattle.reading.specs.ReadBack.{reasonsOf, readVerdicts}
 use Rattle.receipts.specs.laws.Written.{same-texts, line-holds, each-answered, answers-in, answers-of, taken-of, rejected-of, form-holds, names-hold, outcome-holds, reception-is, copies-of}
 use Rattle.imports.specs.Import.{shown}

@@ -42,7 +42,8 @@ use Rattle.lookups.specs.Promises.{ByPan, ByPlate}
 use Rattle.lookups.specs.laws.Found.{pan-fits, pan-part, plate-fits, plate-part}
 use Rattle.applying.specs.Fit.{Fit}
 use Rattle.applying.specs.laws.Follows.{follows}
-use Rattle.receipts.specs.Receipt.{listOf, takenBy, receiptHolds}
+use Rattle.answers.specs.Layout.{listOf}
+use Rattle.receipts.specs.Receipt.{takenBy, receiptHolds}
 use Rattle.provider.specs.declared.Counted.{Counted}
 use Rattle.provider.specs.laws.Held.{list-held}
 use Rattle.updating.specs.Sent.{Sent}

@@ -28,10 +28,8 @@ use Rattle.pairing.specs.Pairing.{marks, left}
 use Rattle.pairing.specs.laws.Pairing.{length-marks}
 use Rattle.pairing.specs.Backwards.{paired}
 use Rattle.pairing.specs.laws.Backwards.{pairsUp, marks-paired, left-paired, left-pairs-up}
+use Rattle.answers.specs.Layout.{answersIn, takenOf, rejectedOf}
 use Rattle.receipts.specs.Receipt.{
-  answersIn,
-  takenOf,
-  rejectedOf,
   textsOf,
   copiesOf,
   marksOf,

@@ -32,7 +32,8 @@ use Rattle.pairing.specs.Pairing.{left}
 use Rattle.pairing.specs.Backwards.{paired}
 use Rattle.pairing.specs.laws.Pairing.{length-marks}
 use Rattle.texts.specs.Field.{field}
-use Rattle.receipts.specs.Receipt.{answersIn, answersOf, listOf, receptionOf, reasonHolds, textsOf, copiesOf, marksOf, takenBy, formHolds, namesHold, outcomeHolds, saysHold, linesHold, receiptHolds}
+use Rattle.answers.specs.Layout.{answersIn, answersOf, listOf, receptionOf}
+use Rattle.receipts.specs.Receipt.{reasonHolds, textsOf, copiesOf, marksOf, takenBy, formHolds, namesHold, outcomeHolds, saysHold, linesHold, receiptHolds}
 use Rattle.matching.specs.laws.Matching.{Held, held, taken-marks, taken-count as count-taken}
 
 module _ (h g : List ℕ) where

@@ -5,7 +5,7 @@ use Rattle.theory.specs.laws.Walk.{EachFrom, each-start, each-on, each-off, eac
 use Rattle.hgv.specs.Layout.{widthOf}
 use Rattle.hgv.specs.laws.Layout.{is-width}
 use Rattle.receipts.specs.Receipt.{answerForm, reasonHolds}
-use Rattle.receipts.specs.laws.Receipt.{answers-room, answers-are}
+use Rattle.answers.specs.laws.Layout.{answers-room, answers-are}
 use mathlib.Core.Path.{sym}
 use mathlib.Core.Bool.{_&&_}
 use Prim.Native.Nat.{_≤_, _-_}

@@ -27,7 +27,8 @@ use Rattle.hgv.specs.Layout.{widthOf}
 use Rattle.header.specs.Header.{sender, listSequence, headerHolds}
 use Rattle.header.specs.laws.Header.{header-sender, header-list}
 use Rattle.hgc.specs.Confirmation.{outcome}
-use Rattle.receipts.specs.Receipt.{answersIn, answersOf, listOf, receptionOf, takenOf, rejectedOf, lengthForm, headForm, answerForm, formHolds, namesHold, outcomeHolds, reasonHolds, saysHold}
+use Rattle.answers.specs.Layout.{answersIn, answersOf, listOf, receptionOf, takenOf, rejectedOf}
+use Rattle.receipts.specs.Receipt.{lengthForm, headForm, answerForm, formHolds, namesHold, outcomeHolds, reasonHolds, saysHold}
 
 -- ---- the clauses, field by field
 

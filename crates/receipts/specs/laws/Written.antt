@@ -52,14 +52,8 @@ use Rattle.hgc.specs.laws.Fields.{
   answer-end,
   texts-answers,
 }
+use Rattle.answers.specs.Layout.{bareLength, answersIn, behindHead, answersOf, receptionOf, takenOf, rejectedOf}
 use Rattle.receipts.specs.Receipt.{
-  bareLength,
-  answersIn,
-  behindHead,
-  answersOf,
-  receptionOf,
-  takenOf,
-  rejectedOf,
   lengthForm,
   headForm,
   answerForm,

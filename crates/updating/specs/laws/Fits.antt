@@ -24,7 +24,8 @@ use Rattle.holdings.specs.Room.{usedAfter}
 use Rattle.holdings.specs.laws.Room.{used-after}
 use Rattle.upkeep.specs.Makes.{Makes}
 use Rattle.applying.specs.Fit.{Fit}
-use Rattle.receipts.specs.Receipt.{listOf, receptionOf, takenBy, receiptHolds}
+use Rattle.answers.specs.Layout.{listOf, receptionOf}
+use Rattle.receipts.specs.Receipt.{takenBy, receiptHolds}
 use Rattle.provider.specs.laws.Held.{taken-storable, taken-apart, taken-made}
 use Rattle.updating.specs.Sent.{sent}
 use Rattle.copies.specs.Copy.{ownHolds}

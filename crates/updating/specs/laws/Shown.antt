@@ -11,7 +11,8 @@ use Rattle.theory.specs.First.{_if_, first, choose}
 use Rattle.theory.specs.laws.First.{numbered, first-append, otherwise}
 use Rattle.theory.specs.laws.Stopped.{at-stop}
 use Rattle.offsets.specs.laws.Shift.{utc-zero, utc-holds-zero}
-use Rattle.receipts.specs.Receipt.{receptionOf, receiptHolds}
+use Rattle.answers.specs.Layout.{receptionOf}
+use Rattle.receipts.specs.Receipt.{receiptHolds}
 use Rattle.slots.specs.Slots.{slotsIn}
 use Rattle.provider.specs.laws.Held.{received-held}
 use Rattle.updating.specs.Sent.{Sent}

@@ -8,7 +8,7 @@ use lib.ListN.{length, length-drop}
 use Rattle.theory.specs.Parts.{chop}
 use Rattle.hgv.specs.Layout.{widthOf}
 use Rattle.hgc.specs.Confirmation.{answerLength}
-use Rattle.receipts.specs.Receipt.{bareLength, answersIn, behindHead, answersOf}
+use Rattle.answers.specs.Layout.{bareLength, answersIn, behindHead, answersOf}
 
 -- behind the header there is room for them
 room : (h g : List ℕ) → answersIn h g * answerLength (widthOf h) ≤ length (behindHead g)

@@ -1,9 +1,9 @@
 -- Assumes nothing.
-use Rattle.receipts.proofs.Laws.{lines-none, lines-lent}
+use Rattle.answers.proofs.Laws.{lines-none, lines-lent}
 use native.Mathlib.Omega.{arith}
 use borrow.Author.Needs.{needs}
-use Rattle.receipts.proofs.answers.Statement.{statement}
-use Rattle.receipts.proofs.answers.Tie as tie
+use Rattle.answers.proofs.answers.Statement.{statement}
+use Rattle.answers.proofs.answers.Tie as tie
 
 returns : tie.Need-returns
 returns c = lines-none _ (omega arith)

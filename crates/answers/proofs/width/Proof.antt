@@ -2,8 +2,8 @@
 use native.Mathlib.Omega.{arith}
 use borrow.Author.Needs.{needs}
 use Rattle.hgv.specs.laws.Layout.{is-width}
-use Rattle.receipts.proofs.width.Statement.{statement}
-use Rattle.receipts.proofs.width.Tie as tie
+use Rattle.answers.proofs.width.Statement.{statement}
+use Rattle.answers.proofs.width.Tie as tie
 
 add-result : tie.Need-add-result
 add-result c = omega (arith, c .width .ensures, is-width (c .before .before .args .hgv .now) .1)
