@@ -22,7 +22,7 @@ use Rattle.receipts.specs.Receipt.{receiptHolds}
 use Rattle.imports.specs.declared.Imported.{Imported}
 use Rattle.imports.specs.Handed.{Handed, at}
 use Rattle.imports.specs.Shown.{answerAs, registerAs, hgcAs}
-use Rattle.imports.specs.Promises.{Import}
+use Rattle.importer.specs.Promises.{Import}
 use Rattle.provider.specs.declared.Counted.{Counted}
 use Rattle.updating.specs.Sent.{Sent}
 use Rattle.updating.specs.Shown as updates

@@ -9,7 +9,8 @@ use Rattle.lookups.specs.Promises.{ByPan, ByPlate}
 use Rattle.lookups.specs.laws.Found.{by-pan-refused, by-plate-refused}
 use Rattle.imports.specs.declared.Imported.{Imported}
 use Rattle.imports.specs.Import.{stops}
-use Rattle.imports.specs.Promises.{Import}
+use Rattle.importer.specs.Promises.{Import}
+use Rattle.imports.specs.Promises.{ImportJudged}
 use Rattle.provider.specs.declared.Counted.{Counted}
 use Rattle.reading.specs.ReadBack.{hgvStops, blockStops}
 use Rattle.updating.specs.Sent.{Sent}
@@ -28,7 +29,7 @@ use Rattle.demands.specs.laws.Answered as answered
 -- "The import, the lookups and the provider's update take every file, table, register and buffer, of every length, and end."
 -- The entry points have no `requires`, and a function is proved only if it ends: so whatever is handed over there is an outcome,
 pub import-ends : (f : Handed) (register : List ℕ) → (r : Imported) × (b : List ℕ) × (g : List ℕ) × Import f register r b g
-unfolding Import
+unfolding ImportJudged
 import-ends f register = (_, _, _, (refl, (refl, refl)))
 
 pub by-pan-ends : (register key : List ℕ) → (part : List ℕ) × (number : ℕ) × ByPan register key part number

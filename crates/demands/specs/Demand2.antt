@@ -29,7 +29,7 @@ use Rattle.imports.specs.declared.Imported.{Imported}
 use Rattle.provider.specs.declared.Counted.{Counted}
 use Rattle.reading.specs.Promises.{ReadBack}
 use Rattle.imports.specs.Handed.{Handed}
-use Rattle.imports.specs.Promises.{Import}
+use Rattle.importer.specs.Promises.{Import}
 use Rattle.demands.specs.Verdicts.{takenBefore, Verdicts, Unbroken}
 use Rattle.demands.specs.laws.Judging.{verdicts-there, verdicts-only, unbroken, none-fits}
 use Rattle.demands.specs.laws.Exact as laws

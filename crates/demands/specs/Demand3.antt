@@ -10,7 +10,7 @@ use Rattle.slots.specs.Slots.{records}
 use Rattle.imports.specs.declared.Imported.{Imported}
 use Rattle.demands.specs.Own.{own}
 use Rattle.imports.specs.Handed.{Handed}
-use Rattle.imports.specs.Promises.{Import}
+use Rattle.importer.specs.Promises.{Import}
 use Rattle.sweeping.specs.declared.Swept.{Swept}
 use Rattle.sweeping.specs.Promises.{Sweep}
 use Rattle.demands.specs.History.{Entry, Answer, Event, sweeping, his, entries, answers, empty, _▸_, Ours, start, swept, idle, Replay, start}

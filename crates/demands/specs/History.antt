@@ -15,7 +15,7 @@ use Rattle.slots.specs.Slots.{records}
 use Rattle.slots.specs.Search.{countOf}
 use Rattle.imports.specs.declared.Imported.{Imported}
 use Rattle.imports.specs.Handed.{Handed}
-use Rattle.imports.specs.Promises.{Import}
+use Rattle.importer.specs.Promises.{Import}
 use Rattle.provider.specs.declared.Counted.{Counted}
 use Rattle.updating.specs.Sent.{Sent, sent}
 use Rattle.updating.specs.Promises.{Update}

@@ -10,7 +10,7 @@ use Rattle.stops.specs.Stops.{callStops, fileStops, indexShort}
 use Rattle.imports.specs.declared.Imported.{Imported}
 use Rattle.imports.specs.Handed.{Handed}
 use Rattle.imports.specs.Import.{judgedStops}
-use Rattle.imports.specs.Promises.{Import}
+use Rattle.importer.specs.Promises.{Import}
 use Rattle.indexed.specs.Promises.{ImportIndexed}
 use Rattle.demands.specs.History.{Event, Ours}
 use Rattle.demands.specs.laws.Indexed as laws

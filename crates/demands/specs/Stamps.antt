@@ -18,7 +18,7 @@ use Rattle.register.specs.Register.{inOrder}
 use Rattle.lookups.specs.Promises.{ByPan, ByPlate}
 use Rattle.imports.specs.declared.Imported.{Imported}
 use Rattle.imports.specs.Handed.{Handed}
-use Rattle.imports.specs.Promises.{Import}
+use Rattle.importer.specs.Promises.{Import}
 use Rattle.offsets.specs.Offset.{utc}
 use Rattle.answers.specs.Layout.{listOf, receptionOf}
 use Rattle.receipts.specs.Receipt.{takenBy}

@@ -21,7 +21,7 @@ use Rattle.register.specs.Register.{inOrder}
 use Rattle.lookups.specs.Promises.{ByPlate}
 use Rattle.imports.specs.declared.Imported.{Imported}
 use Rattle.imports.specs.Handed.{Handed}
-use Rattle.imports.specs.Promises.{Import}
+use Rattle.importer.specs.Promises.{Import}
 use Rattle.provider.specs.declared.Counted.{Counted}
 use Rattle.updating.specs.Sent.{Sent}
 use Rattle.updating.specs.Promises.{Update}

@@ -19,7 +19,7 @@ use Rattle.holdings.specs.Holdings.{others, holdings}
 use Rattle.stops.specs.Stops.{formStops}
 use Rattle.imports.specs.declared.Imported.{Imported}
 use Rattle.imports.specs.Handed.{Handed}
-use Rattle.imports.specs.Promises.{Import}
+use Rattle.importer.specs.Promises.{Import}
 use Rattle.provider.specs.declared.Counted.{Counted}
 use Rattle.updating.specs.Sent.{Sent}
 use Rattle.offsets.specs.Offset.{receptionHolds}

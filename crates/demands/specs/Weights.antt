@@ -24,7 +24,7 @@ use Rattle.register.specs.Register.{inOrder}
 use Rattle.receipts.specs.Receipt.{receiptHolds}
 use Rattle.imports.specs.declared.Imported.{Imported}
 use Rattle.imports.specs.Handed.{Handed}
-use Rattle.imports.specs.Promises.{Import}
+use Rattle.importer.specs.Promises.{Import}
 use Rattle.provider.specs.declared.Counted.{Counted}
 use Rattle.reading.specs.Promises.{ReadBack}
 use Rattle.demands.specs.Own.{own}

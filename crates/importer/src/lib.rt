@@ -6,7 +6,7 @@ ghost use Rattle.offsets.specs.Ahead.{offsetOf};
 ghost use Rattle.stops.specs.Clear.{Clear};
 ghost use Rattle.hgv.specs.Layout.{linesIn};
 ghost use Rattle.imports.specs.Handed.{handed};
-ghost use Rattle.imports.specs.Promises.{Import};
+ghost use Rattle.importer.specs.Promises.{Import};
 use imports::Imported;
 
 // The import of a file whose form is right; `verdicts` has a byte for each line, and `found` a number.

@@ -7,15 +7,11 @@ use Rattle.imports.specs.Handed.{Handed}
 use Rattle.imports.specs.Import.{refusal, importAnswer, registerAfter, hgcAfter}
 
 -- of what is handed over beside the register: the answer, the register and the buffer after it
-unfoldable pub Import : Handed → List ℕ → Imported → List ℕ → List ℕ → Type 0
-Import f register r b g =
+unfoldable pub ImportJudged : Handed → List ℕ → Imported → List ℕ → List ℕ → Type 0
+ImportJudged f register r b g =
     (r ≡ importAnswer f register)
     × ((b ≡ registerAfter f register)
     × (g ≡ hgcAfter f register))
-
--- where the lines are judged, the same
-abbrev pub ImportJudged : Handed → List ℕ → Imported → List ℕ → List ℕ → Type 0
-ImportJudged f register r b g = Import f register r b g
 
 -- the answer to a stop
 abbrev pub Refused : ℕ → Imported → Type 0

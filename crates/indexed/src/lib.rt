@@ -9,7 +9,7 @@ ghost use Rattle.stops.specs.Clear.{Clear};
 ghost use Rattle.hgv.specs.Layout.{linesIn};
 ghost use Rattle.slots.specs.Slots.{slotsIn};
 ghost use Rattle.imports.specs.Handed.{handed};
-ghost use Rattle.imports.specs.Promises.{Import};
+ghost use Rattle.imports.specs.Promises.{ImportJudged};
 ghost use Rattle.indexed.specs.Promises.{ImportIndexed};
 use imports::Imported;
 
@@ -30,7 +30,7 @@ fn import_lines(
     requires long { ⌜ slotsIn (now register) ≤ length (now index) ⌝ }
     requires each { ⌜ length (now verdicts) ≡ linesIn (now hgv) ⌝ }
     requires many { ⌜ length (now found) ≡ linesIn (now hgv) ⌝ }
-    ensures { λ r. ⌜ Import (handed mode (now (reception .entry)) (offsetOf ahead) (now (rows .entry)) (now (hgv .entry)) (now (hgc .entry))) (now (register .entry)) r (now (register .exit)) (now (hgc .exit)) ⌝ }
+    ensures { λ r. ⌜ ImportJudged (handed mode (now (reception .entry)) (offsetOf ahead) (now (rows .entry)) (now (hgv .entry)) (now (hgc .entry))) (now (register .entry)) r (now (register .exit)) (now (hgc .exit)) ⌝ }
 {
     judging::judge(hgv, rows, register, index, verdicts, found);
     imports::import_judged(

@@ -20,7 +20,7 @@ use Rattle.register.specs.Register.{inOrder}
 use Rattle.imports.specs.declared.Imported.{Imported}
 use Rattle.offsets.specs.Offset.{receptionHolds}
 use Rattle.imports.specs.Handed.{handed}
-use Rattle.imports.specs.Promises.{Import}
+use Rattle.importer.specs.Promises.{Import}
 use Rattle.demands.specs.Verdicts.{Verdicts}
 use Rattle.accounts.specs.Account as account
 use Rattle.writer.specs.declared.Written.{Written}

@@ -5,7 +5,7 @@ use mathlib.Core.List.{List}
 use Prim.Native.Nat.{ℕ}
 use Rattle.imports.specs.Handed.{Handed}
 use Rattle.imports.specs.Import.{answered}
-use Rattle.imports.specs.Promises.{Import}
+use Rattle.importer.specs.Promises.{Import}
 
 abbrev pub GraftspindleImport : Handed → List ℕ → ℕ → ℕ → ℕ → ℕ → List ℕ → List ℕ → Type 0
 GraftspindleImport f register number taken rejected size b g = Import f register (answered number taken rejected size) b g

@@ -8,7 +8,8 @@ use lib.ListN.{take}
 use Rattle.theory.specs.Same.{eqs}
 use Rattle.theory.specs.laws.Same.{eqs-refl}
 use Rattle.imports.specs.declared.Imported.{Imported}
-use Rattle.imports.specs.Promises.{Import}
+use Rattle.importer.specs.Promises.{Import}
+use Rattle.imports.specs.Promises.{ImportJudged}
 use Rattle.imports.specs.laws.Shown.{zero-as}
 use Rattle.imports.specs.Handed.{Handed}
 use Rattle.demands.specs.History.{empty}
@@ -39,15 +40,15 @@ module _ (build : Build) (meets : Meets build) where
 
   -- what it makes of a file is what the contract says
   answer-is : (h register : List ℕ) → build (with 1 h) register .answer ≡ answerTo register (with 1 h)
-  unfolding Import
+  unfolding ImportJudged
   answer-is h register = meets (with 1 h) register .0 ∙ zero-as (with 1 h) register refl .answer
 
   register-is : (h register : List ℕ) → build (with 1 h) register .register ≡ after register (with 1 h)
-  unfolding Import
+  unfolding ImportJudged
   register-is h register = meets (with 1 h) register .1 .0 ∙ zero-as (with 1 h) register refl .after
 
   hgc-is : (h register : List ℕ) → build (with 1 h) register .hgc ≡ bufferAfter register (with 1 h)
-  unfolding Import
+  unfolding ImportJudged
   hgc-is h register = meets (with 1 h) register .1 .1 ∙ zero-as (with 1 h) register refl .buffer
 
   number-0 : (h : List ℕ) (r : Imported) → answerTo (empty 1) (with 1 h) ≡ r → r .number ≡ 0 → build (with 1 h) (empty 1) .answer .number ≡ 0

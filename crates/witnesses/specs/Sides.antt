@@ -24,7 +24,8 @@ use Rattle.receipts.specs.Receipt.{receiptHolds}
 use Rattle.provider.specs.declared.Counted.{Counted}
 use Rattle.slots.specs.Slots.{records}
 use Rattle.imports.specs.declared.Imported.{Imported}
-use Rattle.imports.specs.Promises.{Import}
+use Rattle.importer.specs.Promises.{Import}
+use Rattle.imports.specs.Promises.{ImportJudged}
 use Rattle.imports.specs.Shown.{answerAs, registerAs, hgcAs}
 use Rattle.imports.specs.laws.Shown.{zero-as, shown-as}
 use Rattle.updating.specs.Sent.{Sent, sent}
@@ -49,7 +50,7 @@ seven = computed .1 .0
 
 -- an outcome of an import, told by what was computed
 outcome : (f : Handed) (register : List ℕ) (r : Imported) (b : List ℕ) → f .offset ≡ pos 0 → answerTo register f ≡ r → after register f ≡ b → Import f register r b (bufferAfter register f)
-unfolding Import
+unfolding ImportJudged
 outcome f register r b z e d = let k = zero-as f register z in (sym (k .answer ∙ e), (sym (k .after ∙ d), sym (k .buffer)))
 
 -- and of an update
@@ -191,7 +192,7 @@ module _ (o : ℤ) (t t′ : List ℕ) (i : offsetHolds o ≡ true) (r : realTim
 -- an outcome of an import at an offset, told by what was computed
 outcome-at : (f : Handed) (register t : List ℕ) (r : Imported) (b : List ℕ) → (receptionHolds (f .offset) (f .reception) ≡ true) × (local (f .offset) (f .reception) ≡ t)
     → answerAs true t f register ≡ r → registerAs true t f register ≡ b → Import f register r b (hgcAs true t f register)
-unfolding Import
+unfolding ImportJudged
 outcome-at f register t r b k e d = let a = shown-as f register true t (k .0) (k .1) in (sym (a .answer ∙ e), (sym (a .after ∙ d), sym (a .buffer)))
 
 -- and of an update

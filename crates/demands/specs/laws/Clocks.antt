@@ -20,7 +20,8 @@ use Rattle.imports.specs.declared.Imported.{Imported}
 use Rattle.imports.specs.Handed.{Handed, at}
 use Rattle.imports.specs.Import.{following, registerWritten}
 use Rattle.imports.specs.Shown.{confirmedAs, stopsAs, numberAs, answerAs, registerAs, hgcAs}
-use Rattle.imports.specs.Promises.{Import}
+use Rattle.importer.specs.Promises.{Import}
+use Rattle.imports.specs.Promises.{ImportJudged}
 use Rattle.imports.specs.laws.Numbers.{Formed, accepted-clear}
 use Rattle.imports.specs.laws.Shown.{shown-as, zero-as}
 use Rattle.provider.specs.declared.Counted.{Counted}
@@ -86,7 +87,7 @@ module _ (o o′ : ℤ) (f : Handed) (register : List ℕ) (h : receptionHolds o
       ∙ sym (real-length (local o′ (f .reception)) (local-real o′ (f .reception) h′))
 
   pub register-same : (r ≡ r′) × (b ≡ b′)
-  unfolding Import answerAs registerAs numberAs stopsAs confirmedAs following registerWritten
+  unfolding ImportJudged answerAs registerAs numberAs stopsAs confirmedAs following registerWritten
   register-same =
       let a = shown-as (at o f) register true (local o (f .reception)) h refl in
       let a′ = shown-as (at o′ f) register true (local o′ (f .reception)) h′ refl in (
@@ -99,7 +100,7 @@ module _ (o o′ : ℤ) (f : Handed) (register : List ℕ) (h : receptionHolds o
 pub import-before : (f : Handed) (register : List ℕ) (r : Imported) (b g : List ℕ) → Import f register r b g → f .offset ≡ pos 0
     → (r ≡ answerAs (realTime (f .reception)) (f .reception) f register)
     × ((b ≡ registerAs (realTime (f .reception)) (f .reception) f register) × (g ≡ hgcAs (realTime (f .reception)) (f .reception) f register))
-unfolding Import
+unfolding ImportJudged
 import-before f register r b g i e = let a = zero-as f register e in (i .0 ∙ a .answer, (i .1 .0 ∙ a .after, i .1 .1 ∙ a .buffer))
 
 pub update-before : (s : Sent) (copy : List ℕ) (u : Counted) (c : List ℕ) → Update s copy u c → s .offset ≡ pos 0

@@ -29,7 +29,7 @@ use Rattle.holdings.specs.laws.Storing.{all-grows}
 use Rattle.upkeep.specs.Holds.{Holds}
 use Rattle.imports.specs.declared.Imported.{Imported}
 use Rattle.imports.specs.Import.{judged, fileStamp, following, confirmed, importNumber, success, hgcWritten, shown}
-use Rattle.imports.specs.Promises.{Import}
+use Rattle.importer.specs.Promises.{Import}
 use Rattle.imports.specs.laws.Follows.{adds-up, holds-following, others-same, places-same}
 use Rattle.provider.specs.declared.Counted.{Counted}
 use Rattle.reading.specs.Promises.{ReadBack}

@@ -10,14 +10,15 @@ use Rattle.stops.specs.Stops.{callStops, fileStops, formStops, formStop}
 use Rattle.stops.specs.laws.Clear.{clear}
 use Rattle.imports.specs.declared.Imported.{Imported}
 use Rattle.imports.specs.Import.{judgedStops, stops, importNumber, refusal, success, registerWritten, hgcWritten, importAnswer, timed}
-use Rattle.imports.specs.Promises.{Import}
+use Rattle.importer.specs.Promises.{Import}
+use Rattle.imports.specs.Promises.{ImportJudged}
 use Rattle.imports.specs.laws.Numbers.{Formed, stop-answer, stop-register, stop-hgc, done-answer, done-register, done-hgc}
 use Rattle.imports.specs.Handed.{Handed}
 
 module _ (f : Handed) (register : List ℕ) (r : Imported) (b g : List ℕ) (o : Import f register r b g) where
   -- the number answered is that of the first stop that holds
   pub number-is : r .number ≡ importNumber f register
-  unfolding Import importAnswer success refusal
+  unfolding ImportJudged importAnswer success refusal
   number-is =
       ap (λ (a : Imported). a .number) (o .0)
       ∙ number-kept (λ (a : Imported). a .number) (importNumber f register) _ _ refl refl
@@ -57,15 +58,15 @@ module _ (f : Handed) (register : List ℕ) (r : Imported) (b g : List ℕ) (o :
 
   module _ (k : r .number ≡ 0 → ⊥) where
     pub refused-answer : r ≡ refusal (r .number)
-    unfolding Import
+    unfolding ImportJudged
     refused-answer = o .0 ∙ sym (stop-answer f register (r .number) number-is k)
 
     pub refused-register : b ≡ register
-    unfolding Import
+    unfolding ImportJudged
     refused-register = o .1 .0 ∙ sym (stop-register f register (r .number) number-is k)
 
     pub refused-hgc : g ≡ f .hgc
-    unfolding Import
+    unfolding ImportJudged
     refused-hgc = o .1 .1 ∙ sym (stop-hgc f register (r .number) number-is k)
 
     pub refusal-is : (r ≡ record { number = r .number; taken = 0; rejected = 0; length = 0 }) × ((b ≡ register) × (g ≡ f .hgc))
@@ -79,13 +80,13 @@ module _ (f : Handed) (register : List ℕ) (r : Imported) (b g : List ℕ) (o :
     number-0 = sym number-is ∙ z
 
     pub done-is : r ≡ success f register
-    unfolding Import
+    unfolding ImportJudged
     done-is = o .0 ∙ sym (done-answer f register number-0)
 
     pub register-is : b ≡ registerWritten f register
-    unfolding Import
+    unfolding ImportJudged
     register-is = o .1 .0 ∙ sym (done-register f register number-0)
 
     pub hgc-is : g ≡ hgcWritten f register
-    unfolding Import
+    unfolding ImportJudged
     hgc-is = o .1 .1 ∙ sym (done-hgc f register number-0)

@@ -14,8 +14,8 @@ use Rattle.stops.specs.Stops.{callStops, fileStops, formStops, indexShort, inde
 use Rattle.imports.specs.declared.Imported.{Imported}
 use Rattle.imports.specs.Handed.{Handed}
 use Rattle.imports.specs.Import.{judgedStops, stops, timed, importNumber, refusal, success}
-use Rattle.imports.specs.Promises.{Import}
-use Rattle.imports.specs.laws.Outcomes.{import-one}
+use Rattle.importer.specs.Promises.{Import}
+use Rattle.importer.specs.laws.Outcomes.{import-one}
 use Rattle.indexed.specs.Indexed.{indexedStops, indexedNumber}
 use Rattle.indexed.specs.Promises.{ImportIndexed}
 use Rattle.indexed.specs.laws.Same.{as-import, number-short, number-long}

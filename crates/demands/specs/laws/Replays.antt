@@ -23,7 +23,7 @@ use Rattle.register.specs.Register.{inOrder}
 use Rattle.register.specs.laws.Register.{records-pad, order-pad, slots-pad}
 use Rattle.upkeep.specs.Holds.{Holds}
 use Rattle.imports.specs.declared.Imported.{Imported}
-use Rattle.imports.specs.Promises.{Import}
+use Rattle.importer.specs.Promises.{Import}
 use Rattle.provider.specs.declared.Counted.{Counted}
 use Rattle.updating.specs.Sent.{sent}
 use Rattle.updating.specs.Promises.{Update}

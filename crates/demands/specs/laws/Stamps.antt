@@ -33,7 +33,7 @@ use Rattle.applying.specs.laws.Touched as applying
 use Rattle.imports.specs.declared.Imported.{Imported}
 use Rattle.imports.specs.Handed.{Handed}
 use Rattle.imports.specs.Import.{judged, fileStamp, following, importNumber}
-use Rattle.imports.specs.Promises.{Import}
+use Rattle.importer.specs.Promises.{Import}
 use Rattle.imports.specs.laws.Numbers.{Formed, accepted-clear, formed-received}
 use Rattle.imports.specs.laws.Accepted.{lines-storable}
 use Rattle.imports.specs.laws.Follows.{fit}

@@ -36,7 +36,7 @@ use Rattle.thinness.specs.Thin.{thin}
 use Rattle.imports.specs.declared.Imported.{Imported}
 use Rattle.imports.specs.Handed.{Handed}
 use Rattle.imports.specs.Import.{judged, fileStamp, following, confirmed, judgedStops}
-use Rattle.imports.specs.Promises.{Import}
+use Rattle.importer.specs.Promises.{Import}
 use Rattle.imports.specs.laws.Numbers.{Formed}
 use Rattle.imports.specs.laws.Thin.{length-taken}
 use Rattle.sweeping.specs.declared.Swept.{Swept}

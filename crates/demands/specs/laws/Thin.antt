@@ -36,7 +36,7 @@ use Rattle.stops.specs.laws.Clear.{clear}
 use Rattle.imports.specs.declared.Imported.{Imported}
 use Rattle.imports.specs.Handed.{Handed}
 use Rattle.imports.specs.Import.{judged, fileStamp, following, confirmed, judgedStops, importNumber, timed}
-use Rattle.imports.specs.Promises.{Import}
+use Rattle.importer.specs.Promises.{Import}
 use Rattle.imports.specs.laws.Numbers.{Formed, number-judged, accepted-clear, accepted-passed}
 use Rattle.imports.specs.laws.Accepted.{lines-his}
 use Rattle.imports.specs.laws.Follows.{fit}

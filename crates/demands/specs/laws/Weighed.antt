@@ -26,7 +26,7 @@ use Rattle.stops.specs.laws.Clear.{clear, clear-none}
 use Rattle.imports.specs.declared.Imported.{Imported}
 use Rattle.imports.specs.Handed.{Handed}
 use Rattle.imports.specs.Import.{judged, following, confirmed, success, registerWritten, hgcWritten, timed}
-use Rattle.imports.specs.Promises.{Import}
+use Rattle.importer.specs.Promises.{Import}
 use Rattle.imports.specs.laws.Numbers.{accepted-clear, accepted-passed}
 use Rattle.demands.specs.History.{acceptance}
 use Rattle.demands.specs.Weighed.{limitBefore, inOrderBefore, receiptHoldsBefore, L10Under, rulesUnder, verdictUnder, judgedUnder, followingBy, AcceptedUnder, ownCounts, acceptanceBy}

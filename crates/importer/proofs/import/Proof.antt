@@ -1,5 +1,5 @@
 -- Assumes nothing.
-use Rattle.imports.specs.Promises.{Import}
+use Rattle.imports.specs.Promises.{ImportJudged}
 use mathlib.Core.Path.{_≡_, sym, _∙_}
 use native.Mathlib.Omega.{arith}
 use Rattle.imports.specs.Handed.{handed}
@@ -14,7 +14,7 @@ use Rattle.importer.proofs.import.Statement.{statement}
 use Rattle.importer.proofs.import.Tie as tie
 
 returns : tie.Need-returns
-unfolding Import
+unfolding ImportJudged
 returns c =
     let s = c .before .before .before .before .before .before .before .before .before .before in
     let a = s .args in

@@ -1,5 +1,5 @@
 -- Assumes nothing.
-use Rattle.imports.specs.Promises.{Import}
+use Rattle.imports.specs.Promises.{ImportJudged}
 use mathlib.Core.Path.{sym, _∙_}
 use Rattle.offsets.specs.Ahead.{offsetOf}
 use Rattle.imports.specs.Handed.{handed}
@@ -18,7 +18,7 @@ judged-stop-requires c κs =
     (clear, (verdicts, (c .before .before .count-taken .ensures, (rest-rejected _ _ (c .before .before .count-taken .ensures), sought))))
 
 returns : tie.Need-returns
-unfolding Import
+unfolding ImportJudged
 returns c =
     let x = c .before .before .before .before .before .before .before .before .before .before .before .before .before in
     let a = x .args in
@@ -36,7 +36,7 @@ carry-out-requires c κs =
     accepts f _ _ clear verdicts _ sought _ (c .before .before .before .before .before .before .count-taken .ensures) _ (c .before .before .before .judged-stop .ensures) (c .before .before .if1 .left)
 
 returns-2 : tie.Need-returns-2
-unfolding Import
+unfolding ImportJudged
 returns-2 c =
     let x = c .before .before .before .before .before .before .before .before .before .before .before .before .before .before .before .before .before .before .before in
     let a = x .args in

@@ -12,7 +12,7 @@ use Rattle.stops.specs.Stops.{callStops, fileStops, formStops, indexShort, inde
 use Rattle.imports.specs.declared.Imported.{Imported}
 use Rattle.imports.specs.Handed.{Handed}
 use Rattle.imports.specs.Import.{judgedStops, timed, stops, importNumber, refusal, importAnswer, registerAfter, hgcAfter}
-use Rattle.imports.specs.Promises.{Import}
+use Rattle.imports.specs.Promises.{ImportJudged}
 use Rattle.indexed.specs.Indexed.{indexedStops, indexedNumber}
 use Rattle.indexed.specs.Promises.{ImportIndexed}
 
@@ -24,12 +24,12 @@ module _ (k : ℕ) (f : Handed) (register : List ℕ) where
   number-same l = rw (le-ltb k (slotsIn register) l)
 
   module _ (l : slotsIn register ≤ k) (r : Imported) (b g : List ℕ) where
-    pub as-import : ImportIndexed k f register r b g → Import f register r b g
-    unfolding ImportIndexed Import importAnswer registerAfter hgcAfter
+    pub as-import : ImportIndexed k f register r b g → ImportJudged f register r b g
+    unfolding ImportIndexed ImportJudged importAnswer registerAfter hgcAfter
     as-import o = rw (number-same l) at o
 
-    pub as-indexed : Import f register r b g → ImportIndexed k f register r b g
-    unfolding ImportIndexed Import importAnswer registerAfter hgcAfter
+    pub as-indexed : ImportJudged f register r b g → ImportIndexed k f register r b g
+    unfolding ImportIndexed ImportJudged importAnswer registerAfter hgcAfter
     as-indexed o = rw (number-same l) o
 
   -- ---- too short

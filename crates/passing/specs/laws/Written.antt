@@ -46,7 +46,7 @@ use Rattle.offsets.specs.Offset.{local, receptionHolds}
 use Rattle.offsets.specs.laws.Shift.{local-real}
 use Rattle.imports.specs.Handed.{Handed, handed}
 use Rattle.imports.specs.Import.{judged, fileStamp, following, confirmed, judgedStops, success}
-use Rattle.imports.specs.Promises.{Import}
+use Rattle.importer.specs.Promises.{Import}
 use Rattle.stops.specs.Clear.{Clear}
 use Rattle.imports.specs.laws.Numbers.{number-judged}
 use Rattle.demands.specs.Verdicts.{Verdicts}

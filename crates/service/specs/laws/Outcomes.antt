@@ -5,7 +5,7 @@ use Prim.Native.Nat.{ℕ}
 use Rattle.theory.specs.laws.Outcome.{one-outcome}
 use Rattle.imports.specs.Handed.{Handed}
 use Rattle.imports.specs.Import.{answered}
-use Rattle.imports.specs.laws.Outcomes.{import-one}
+use Rattle.importer.specs.laws.Outcomes.{import-one}
 use Rattle.service.specs.Promises.{GraftspindleImport, GraftspindleRevision}
 
 module _ (f : Handed) (register : List ℕ) (n n′ t t′ r r′ l l′ : ℕ) (b b′ g g′ : List ℕ) where
