@@ -9,6 +9,7 @@ ghost use Rattle.theory.specs.First.{first, choose};
 ghost use Rattle.theory.specs.laws.First.{otherwise};
 ghost use Rattle.theory.specs.Pick.{good, bad};
 ghost use Rattle.theory.specs.Distinct.{distinct};
+ghost use Rattle.sizes.specs.Sizes.{linesMost};
 ghost use Rattle.columns.specs.Columns.{panOf};
 ghost use Rattle.slots.specs.Slots.{slotsOf};
 ghost use Rattle.slots.specs.Search.{placeOf};
@@ -75,9 +76,8 @@ fn flag_after(flag: u8, verdict: u8) -> u8
     flag
 }
 
-// A verdict for each of the lines, by the places that were found. The flag of a PAN stands at the first line that has it. What
-// the flags hold afterwards means nothing.
-pub fn judge_placed(
+// What `judge_placed` promises, with flags. The flag of a PAN stands at the first line that has it.
+fn judge_flagged(
     lines: &[u8],
     width: usize,
     sender: &[u8],
@@ -105,4 +105,37 @@ pub fn judge_placed(
         flags[first] = flag_after(flag, v);
         i += 1;
     }
+}
+
+// A verdict for each of the lines, by the places of their PANs among the slots and by the first lines that have them.
+pub fn judge_placed(
+    lines: &[u8],
+    width: usize,
+    sender: &[u8],
+    rows: &[u8],
+    held: &[u8],
+    found: &[u16],
+    firsts: &[u16],
+    verdicts: &mut [u8],
+)
+    requires lined { ⌜ length (now verdicts) * width ≤ length (now lines) ⌝ }
+    requires few { ⌜ length (now verdicts) ≤ linesMost ⌝ }
+    requires apart { ⌜ distinct (map panOf (slotsOf (now held))) ≡ true ⌝ }
+    requires placed { ⌜ now found ≡ placesOf (slotsOf (now held)) width (now lines) (length (now verdicts)) ⌝ }
+    requires first { ⌜ now firsts ≡ firstsOf width (now lines) (length (now verdicts)) ⌝ }
+    ensures { λ _. ⌜ JudgePlaced (now (lines .entry)) width (now (sender .entry)) (now (rows .entry)) (now (held .entry)) (now (verdicts .entry)) (now (verdicts .exit)) ⌝ }
+{
+    let n = verdicts.len();
+    let mut flags = [0u8; sizes::LINES_MOST];
+    judge_flagged(
+        lines,
+        width,
+        sender,
+        rows,
+        held,
+        found,
+        firsts,
+        &mut flags[..n],
+        verdicts,
+    );
 }

@@ -60,9 +60,9 @@ fn judge_found(
     sender: &[u8],
     rows: &[u8],
     held: &[u8],
+    marks: &[u8],
     index: &mut [u16],
     firsts: &mut [u16],
-    flags: &mut [u8],
     verdicts: &mut [u8],
     found: &mut [u16],
 )
@@ -73,22 +73,12 @@ fn judge_found(
     requires indexed { ⌜ slotsIn (now held) ≤ length (now index) ⌝ }
     requires many { ⌜ length (now found) ≡ length (now verdicts) ⌝ }
     requires many_firsts { ⌜ length (now firsts) ≡ length (now verdicts) ⌝ }
-    requires unflagged { ⌜ now flags ≡ replicate (length (now verdicts)) 0 ⌝ }
+    requires unmarked { ⌜ now marks ≡ replicate (length (now verdicts)) 0 ⌝ }
     ensures judged { λ _. ⌜ now (verdicts .exit) ≡ verdictsOf (now (rows .entry)) (now (sender .entry)) (slotsOf (now (held .entry))) (chop width (length (now (verdicts .entry))) (now (lines .entry))) ⌝ }
     ensures placed { λ _. ⌜ now (found .exit) ≡ placesOf (slotsOf (now (held .entry))) width (now (lines .entry)) (length (now (verdicts .entry))) ⌝ }
 {
-    find_both(held, lines, width, flags, index, found, firsts);
-    flagging::judge_placed(
-        lines,
-        width,
-        sender,
-        rows,
-        held,
-        found,
-        firsts,
-        flags,
-        verdicts,
-    );
+    find_both(held, lines, width, marks, index, found, firsts);
+    flagging::judge_placed(lines, width, sender, rows, held, found, firsts, verdicts);
 }
 
 // The verdicts of a file, a byte for each of its lines, and where each line's PAN stands among the records of the register.
@@ -114,16 +104,16 @@ pub fn judge(
     let held = slots::used_part(register);
     let n = verdicts.len();
     let mut firsts = [0u16; sizes::LINES_MOST];
-    let mut flags = [0u8; sizes::LINES_MOST];
+    let marks = [0u8; sizes::LINES_MOST];
     judge_found(
         lines,
         width,
         sender,
         rows,
         held,
+        &marks[..n],
         index,
         &mut firsts[..n],
-        &mut flags[..n],
         verdicts,
         found,
     );

@@ -8,18 +8,18 @@ use Rattle.judging.proofs.Laws.{lines-few, lines-fit, held-few, held-ap
 use Rattle.judging.proofs.judge.Statement.{statement}
 use Rattle.judging.proofs.judge.Tie as tie
 
-array-borrow-prefix-firsts : tie.Need-array-borrow-prefix-firsts
-array-borrow-prefix-firsts c =
-    let (sized, (_, (each, _))) = c .before .before .before .before .before .before .before .before .before .before .before .pre in
+array-share-prefix-marks : tie.Need-array-share-prefix-marks
+array-share-prefix-marks c =
+    let (sized, (_, (each, _))) = c .before .before .before .before .before .before .before .before .before .before .pre in
     lines-few _ sized _ each
 
 slice-aggregate-judge-found : tie.Need-slice-aggregate-judge-found
 slice-aggregate-judge-found c =
-    let (sized, (_, (each, _))) = c .before .before .before .before .before .before .before .before .before .before .before .before .pre in
+    let (sized, (_, (each, _))) = c .before .before .before .before .before .before .before .before .before .before .before .pre in
     sym (length-cut _ linesMost 0 (lines-few _ sized _ each))
 
-array-borrow-prefix-flags : tie.Need-array-borrow-prefix-flags
-array-borrow-prefix-flags c =
+array-borrow-prefix-firsts : tie.Need-array-borrow-prefix-firsts
+array-borrow-prefix-firsts c =
     let (sized, (_, (each, _))) = c .before .before .before .before .before .before .before .before .before .before .before .before .pre in
     lines-few _ sized _ each
 
@@ -41,7 +41,7 @@ judge-found-requires c κs =
 
 returns : tie.Need-returns
 returns c =
-    let x = c .before .before .before .before .before .before .before .before in
+    let x = c .before .before .before .before .before .before .before in
     let y = x .before .before .before .before .before .before in
     let (_, (_, (each, _))) = y .before .before .before .before .before .before .before .before .before .before .pre in
     let held = y .used-part .ensures in
@@ -58,9 +58,9 @@ judge-spec =
     (λ c κs. search needs)
     (λ c κs. search needs)
     (λ c κs. search needs)
-    array-borrow-prefix-firsts
+    array-share-prefix-marks
     slice-aggregate-judge-found
-    array-borrow-prefix-flags
+    array-borrow-prefix-firsts
     slice-aggregate-judge-found-2
     judge-found-requires
     (λ c. search needs)
