@@ -52,7 +52,11 @@ fn crossing((name, kind): &Parameter) -> Vec<Parameter> {
 fn exported(source: &str, all: &mut Functions) {
     let source = code(source);
     let exports: Vec<&str> = source.split("pub extern \"C\" fn ").collect();
-    assert_eq!(source.matches("#[no_mangle]").count(), exports.len() - 1, "each export is marked, and nothing else");
+    assert_eq!(
+        source.matches("#[unsafe(no_mangle)]").count(),
+        exports.len() - 1,
+        "each export is marked, and nothing else"
+    );
     for export in &exports[1..] {
         let (name, parameters, result) = read_function(export, &['{']);
         add(all, (name, parameters.iter().flat_map(crossing).collect(), result));
@@ -102,7 +106,7 @@ fn each_declaration_is_its_export() {
 /// That the comparison tells apart: each of these changes of a declaration is another function.
 #[test]
 fn a_changed_declaration_is_told_apart() {
-    let export = "#[no_mangle]\npub extern \"C\" fn f(\n    mode: u64,\n    offset: i64,\n    a: &[u8],\n    b: &mut [u8],\n    c: &mut [u16],\n    n: &mut u64,\n) -> u64\n    ensures { λ r. r }\n{";
+    let export = "#[unsafe(no_mangle)]\npub extern \"C\" fn f(\n    mode: u64,\n    offset: i64,\n    a: &[u8],\n    b: &mut [u8],\n    c: &mut [u16],\n    n: &mut u64,\n) -> u64\n    ensures { result }\n{";
     let right = "extern \"C\" { fn f(mode: u64, offset: i64, a: *const u8, a_length: usize, b: *mut u8, b_length: usize, c: *mut u16, c_length: usize, n: *mut u64) -> u64; }";
     let (mut exports, mut same) = (Functions::new(), Functions::new());
     exported(export, &mut exports);

@@ -15,10 +15,14 @@ fn in_capitals(name: &str) -> String {
     name.split('_').map(word).collect()
 }
 
+/// The one crate that speaks with the system, of which no contract can say what it gives or takes.
+const SYSTEM: &str = "printing";
+
 /// The library crates: those with a lib.rt.
 fn libraries() -> Vec<PathBuf> {
     let crates = read_dir(root().join("crates")).expect("the crates");
-    crates.map(|c| c.expect("a crate").path()).filter(|c| c.join("src/lib.rt").exists()).collect()
+    let is_promised = |c: &PathBuf| c.join("src/lib.rt").exists() && !c.ends_with(SYSTEM);
+    crates.map(|c| c.expect("a crate").path()).filter(is_promised).collect()
 }
 
 /// Each public function of lib.rt with the text from its name to its body.
@@ -43,7 +47,7 @@ fn each_contract_is_one_promise_with_its_law() {
             let called = own.trim_start_matches("Graftspindle").to_string();
             let ensures: Vec<&str> = contract.split("ensures").skip(1).collect();
             assert_eq!(ensures.len(), 1, "{name}: one ensures");
-            let said = ensures[0].split('⌜').nth(1).expect("a promise").trim_start();
+            let said = ensures[0].split('{').nth(1).expect("a promise").trim_start();
             let cited = said.split(' ').next().expect("a name");
             assert!(cited == own || cited == called, "{name}: its contract cites {cited}");
             assert!(!said.contains(" × ") && !said.contains('≡'), "{name}: its contract says more than its promise");
@@ -52,7 +56,7 @@ fn each_contract_is_one_promise_with_its_law() {
                 continue;
             }
             let laws = text(&library.join("specs/laws/Outcomes.antt"));
-            let law = format!("pub {}-one :", name.replace('_', "-"));
+            let law = format!("pub {name}_one :");
             let stated = laws.split(&law).nth(1).unwrap_or_else(|| panic!("{name}: no law {law}"));
             let stated = stated.split("\n\n").next().expect("a statement");
             assert!(stated.matches(&format!("{cited} ")).count() >= 2, "{name}: its law does not speak of {cited}");
@@ -131,4 +135,44 @@ fn theorems_stand_where_the_glossary_says() {
         }
     }
     assert!(count > 30, "{count} theorems");
+}
+
+/// The types that a page states, under names of their own.
+fn stated(page: &str) -> Vec<&str> {
+    page.lines().filter_map(|line| line.trim().strip_prefix("abbrev pub ")?.strip_suffix(" : Type 0")).collect()
+}
+
+/// Is this the head of a theorem of that type, under its name?
+fn proves(head: &str, statement: &str) -> bool {
+    let mut words = head.split_whitespace();
+    words.next() == Some("pub")
+        && words.next().is_some_and(|name| in_capitals(name) == statement)
+        && words.any(|word| word == statement)
+}
+
+/// Where a page of the demands has a theorem's statement alone, as a type, the file of its name in proofs/ has the theorem.
+#[test]
+fn each_statement_has_its_theorem() {
+    let demands = root().join("crates/demands");
+    let mut count = 0;
+    for page in files(&demands.join("specs"), ".antt") {
+        for statement in stated(&text(&page)) {
+            count += 1;
+            let theorems = demands.join("proofs").join(page.file_name().expect("a name"));
+            let is_there = text(&theorems).lines().any(|line| proves(line, statement));
+            assert!(is_there, "{statement}: no theorem of this type in {}", theorems.display());
+        }
+    }
+    assert!(count >= 10, "{count} statements");
+}
+
+/// What tells a theorem of a type from its neighbours.
+#[test]
+fn another_theorem_is_told_apart() {
+    assert!(proves("  pub copy_is : CopyIs ours who replay", "CopyIs"));
+    for head in
+        ["  copy_is : CopyIs ours", "pub copy_is : SameRecords ours", "pub same_records : CopyIs ours", "pub copy_is :"]
+    {
+        assert!(!proves(head, "CopyIs"), "{head}");
+    }
 }
