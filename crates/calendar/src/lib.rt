@@ -1,4 +1,6 @@
 // The Gregorian calendar in numbers: which moments are real, their seconds since 00010101000000, and the way back.
+#![tactic(auto)]
+
 ghost use Rattle.std.specs.Prelude.{◌≡◌, ◌<◌, ◌≤◌};
 ghost use Rattle.calendar.specs.Calendar.{leap, days_in, real_clock, months_to, year_days, years_to, over, all_seconds};
 ghost use Rattle.calendar.specs.Bounds.{Bounds};
@@ -9,7 +11,7 @@ const DAY: u64 = 86400;
 
 pub const ALL: u64 = 315537897600;
 
-#[derive(Drop)]
+#[derive(Clone, Copy)]
 pub struct Moment {
     pub year: u64,
     pub month: u64,

@@ -1,5 +1,7 @@
 // The characters of a field: hexadecimal digits, how many digits stand in front, and blanks behind them. Every function
 // takes a slice of any length.
+#![tactic(auto)]
+
 ghost use Rattle.std.specs.Prelude.{◌≡◌};
 ghost use Rattle.theory.specs.Every.{all};
 ghost use Rattle.fields.specs.Field.{digit};

@@ -1,5 +1,7 @@
 // What one field may hold. Every function takes a slice of any length: a field of another length than asked is
 // simply not in form.
+#![tactic(auto)]
+
 ghost use Rattle.std.specs.Prelude.{◌≡◌};
 ghost use Rattle.theory.specs.Every.{all, run};
 ghost use Rattle.fields.specs.Field.{between};

@@ -1,4 +1,6 @@
 // The number that digits write, and the digits that a number is written in.
+#![tactic(auto)]
+
 ghost use Rattle.std.specs.Prelude.{◌≡◌, ◌+◌, ◌-◌, ◌≤◌, length};
 ghost use Rattle.theory.specs.Text.{byte};
 ghost use Rattle.numbers.specs.Number.{decimal};

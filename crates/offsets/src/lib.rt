@@ -1,4 +1,6 @@
 // Local time and UTC.
+#![tactic(auto)]
+
 ghost use Rattle.std.specs.Prelude.{◌≡◌, true, ◌*◌, ◌≤◌, length};
 ghost use Rattle.sizes.specs.Sizes.{time_length};
 ghost use Rattle.times.specs.Seconds.{time_of, is_real};

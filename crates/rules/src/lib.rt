@@ -1,4 +1,6 @@
 // Rules in an order, each with a number: the answer is the number of the first that fits.
+#![tactic(auto)]
+
 ghost use Rattle.rules.specs.Promises.{First};
 
 // The number, where the rule fits, else what the later rules say. Rules are taken from the last to the first, so that

@@ -1,4 +1,5 @@
 // The sizes of the document, in bytes and in parts, and the two modes: each number once.
+#![tactic(auto)]
 
 // No file has more lines, and no register more slots.
 pub const PARTS_MOST: usize = 8192;

@@ -1,4 +1,6 @@
 // Where a text stands in another: fields by their positions, parts of a block, entries of a table; two texts compared.
+#![tactic(auto)]
+
 ghost use Rattle.std.specs.Prelude.{◌+◌, ◌*◌, ◌≤◌, ◌<◌, length};
 ghost use Rattle.texts.specs.Promises.{Field, Part, Same, HasText, Listed};
 

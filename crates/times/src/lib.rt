@@ -1,4 +1,6 @@
 // Real times and dates, and which of two comes first. Every public function takes texts of any length.
+#![tactic(auto)]
+
 ghost use Rattle.std.specs.Prelude.{◌≡◌, ◌+◌, ◌<◌, ◌≤◌, length};
 ghost use Rattle.texts.specs.Field.{field};
 ghost use Rattle.numbers.specs.Number.{number};
@@ -9,7 +11,7 @@ ghost use Rattle.times.specs.laws.Back.{Fits};
 ghost use Rattle.times.specs.Promises.{TimeOf, IsRealTime, IsRealDate, IsEarlier, WriteTime};
 
 // The seconds of a real time since 00010101000000.
-#[derive(Drop)]
+#[derive(Clone, Copy)]
 pub enum Time {
     Real(u64),
     Unreal,

@@ -1,4 +1,6 @@
 // One text written over another.
+#![tactic(auto)]
+
 ghost use Rattle.std.specs.Prelude.{◌≡◌, ◌+◌, ◌-◌, ◌≤◌, length};
 ghost use Rattle.writing.specs.Promises.{Copy, PutField};
 
