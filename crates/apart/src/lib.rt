@@ -1,4 +1,6 @@
 // Have no two parts of a block one key, where every part is asked.
+#![tactic(auto)]
+
 ghost use Rattle.std.specs.Prelude.{◌*◌, ◌≤◌, length};
 ghost use Rattle.sizes.specs.Sizes.{parts_most};
 ghost use Rattle.keys.specs.Keys.{Forward};

@@ -1,6 +1,8 @@
 // Keys of lines looked for among the parts of a block, and of each part the first that has its key. The places of the parts
 // are sorted by their keys once, and the order is tested; what is found in it by halving is tested too. Only where a test fails
 // are all parts looked at.
+#![tactic(auto)]
+
 ghost use Rattle.std.specs.Prelude.{◌≡◌, true, ◌*◌, ◌-◌, ◌≤◌, ◌<◌, length, get_or};
 ghost use Rattle.sizes.specs.Sizes.{parts_most};
 ghost use Rattle.theory.specs.Place.{place};

@@ -1,10 +1,12 @@
 // Keys of the parts of a block: where the key of a part stands, and which of two texts comes first.
+#![tactic(auto)]
+
 ghost use Rattle.std.specs.Prelude.{◌*◌, ◌+◌, ◌≤◌, length};
 ghost use Rattle.keys.specs.Keys.{Forward};
 ghost use Rattle.keys.specs.Promises.{Key, IsLess};
 
 // The width of the parts, and the first and the last position of a part's key.
-#[derive(Drop)]
+#[derive(Clone, Copy)]
 pub struct Keys {
     pub width: usize,
     pub from: usize,

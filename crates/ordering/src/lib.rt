@@ -1,6 +1,8 @@
 // Have no two parts of a block one key, and is each the first that has its own. The parts are sorted by their keys, and
 // the order is tested, since nothing is proved of the sort: where it rises and no part is missing, equal keys are
 // neighbours.
+#![tactic(auto)]
+
 ghost use Rattle.std.specs.Prelude.{◌≡◌, true, false, ◌&&◌, ◌*◌, ◌≤◌, ◌<◌, eqb, ltb, length, get_or};
 ghost use Rattle.sizes.specs.Sizes.{parts_most};
 ghost use Rattle.theory.specs.Below.{below};

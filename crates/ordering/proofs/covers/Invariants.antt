@@ -1,0 +1,14 @@
+-- The invariant: the parts in front of the place a stand at their ranks.
+use mathlib.Core.Path.{◌≡◌}
+use mathlib.Core.Bool.{true}
+use Rattle.theory.specs.Below.{below}
+use Rattle.ordering.specs.Ranks.{ranked}
+use Prim.Native.Nat.{◌≤◌, ◌-◌}
+use lib.ListN.{length}
+use Rattle.ordering.proofs.covers.Given as goal
+
+abbrev pub invariant-loop-a : goal.invariant-loop-a
+invariant-loop-a l = (l.a ≤ length l.marks) × (below (ranked l.all l.marks l.order l.ranks l.m) l.a ≡ true)
+
+abbrev pub decreases-loop-a : goal.decreases-loop-a
+decreases-loop-a l = length l.marks - l.a
