@@ -1,5 +1,7 @@
 // What the HGV's header claims: its version, its receiver and its count (stops 27 to 30). Every public function takes a
 // file of any length.
+#![tactic(auto)]
+
 ghost use Rattle.claims.specs.Promises.{HasVersion, IsIncrementalOnly, HasReceiver, HasCount};
 
 use header::columns;

@@ -1,3 +1,5 @@
+#![tactic(auto)]
+
 // The columns of a body line: the first and the last position of each, counted from 1 as in the document's table.
 // The text of a line goes to the last position but one.
 pub const TEXT_FROM: usize = 2;

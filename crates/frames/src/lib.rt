@@ -1,5 +1,7 @@
 // What frames the HGV's lines: their first and last bytes (stop 32), and the footer behind them (stop 31), which the HGC has
 // too. Every public function that reads takes a file, or a part of one, of any length.
+#![tactic(auto)]
+
 ghost use Rattle.std.specs.Prelude.{◌≡◌, ◌+◌, ◌*◌, ◌-◌, ◌≤◌, length};
 ghost use Rattle.theory.specs.Every.{all};
 ghost use Rattle.theory.specs.Parts.{chop};

@@ -1,4 +1,6 @@
 // The form of the HGV's header (stop 26). Every public function takes a file of any length.
+#![tactic(auto)]
+
 pub mod columns;
 
 ghost use Rattle.std.specs.Prelude.{◌≡◌, ◌≤◌};

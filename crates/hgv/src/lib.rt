@@ -1,4 +1,6 @@
 // The HGV file's layout (stop 25). Every public function takes a file of any length.
+#![tactic(auto)]
+
 ghost use Rattle.std.specs.Prelude.{◌≡◌};
 ghost use Rattle.hgv.specs.Layout.{body_length};
 ghost use Rattle.hgv.specs.Promises.{Width, LinesIn, HasLength, Body};

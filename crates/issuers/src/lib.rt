@@ -1,5 +1,7 @@
 // The issuer rows: their form (stop 24), whether one has the sender (stop 29), and what a PAN finds among the
 // sender's (L3, L4).
+#![tactic(auto)]
+
 ghost use Rattle.std.specs.Prelude.{◌≡◌, ◌&&◌, eqb, ◌*◌, ◌≤◌, length, take};
 ghost use Rattle.theory.specs.Parts.{chop};
 ghost use Rattle.theory.specs.Walk.{each};
@@ -9,7 +11,7 @@ ghost use Rattle.issuers.specs.Promises.{AreRows, IsKnown, IssuedTo};
 
 // What a PAN finds among the sender's rows: one whose BIN ID digits begin it (L3), and such a one that has its number
 // of digits (L4).
-#[derive(Drop)]
+#[derive(Clone, Copy)]
 pub struct Issued {
     pub begins: bool,
     pub fits: bool,

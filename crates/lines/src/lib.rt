@@ -1,5 +1,7 @@
 // The rules of a line (L1 to L10) and of a record. A line comes as a part of the lent body, or of the register; one of
 // any length is judged.
+#![tactic(auto)]
+
 ghost use Rattle.std.specs.Prelude.{◌≡◌};
 ghost use Rattle.lines.specs.Rules.{nationality_blank, L1, L2, L5, L6, L7, L8, L9, L10};
 ghost use Rattle.lines.specs.Promises.{LineFault, IsRecord};

@@ -1,4 +1,6 @@
 // The personal account number: its form (L1) and its Luhn sum (L5).
+#![tactic(auto)]
+
 ghost use Rattle.std.specs.Prelude.{◌≡◌, true, ◌<◌, ◌%◌};
 ghost use Rattle.theory.specs.Every.{all};
 ghost use Rattle.fields.specs.Field.{digit};

@@ -1,4 +1,6 @@
 // The license plate: its characters (L6), its nationality (L7), its separators (L10).
+#![tactic(auto)]
+
 ghost use Rattle.std.specs.Prelude.{◌≡◌, ◌+◌, leb};
 ghost use Rattle.theory.specs.Every.{leading};
 ghost use Rattle.plates.specs.Plate.{allowed, separated};

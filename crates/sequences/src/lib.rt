@@ -1,4 +1,6 @@
 // The sequence of a list: `HGV`, its sender, a date and a number. Every public function takes texts of any length.
+#![tactic(auto)]
+
 ghost use Rattle.sequences.specs.Promises.{IsSequence};
 
 const SEQUENCE: usize = 19;

@@ -1,4 +1,6 @@
 // A byte for each line of a file: 0 where the line was taken.
+#![tactic(auto)]
+
 ghost use Rattle.taken.specs.Promises.{CountTaken};
 
 // How many are 0.

@@ -1,5 +1,7 @@
 // What L10 asks of a line's fields: what it says of the vehicle, its end and its separators. A weight is four digits here; its
 // limits stand in `weights`.
+#![tactic(auto)]
+
 ghost use Rattle.std.specs.Prelude.{◌≡◌, ◌||◌};
 ghost use Rattle.theory.specs.Every.{run};
 ghost use Rattle.fields.specs.Field.{digit, blank};

@@ -1,4 +1,6 @@
 // The limits that L10 sets a line's weight by its tariff.
+#![tactic(auto)]
+
 ghost use Rattle.std.specs.Prelude.{◌≡◌};
 ghost use Rattle.weights.specs.Weights.{◌from◌to◌, limits, meets, meets_each};
 ghost use Rattle.weights.specs.Promises.{HoldsWeight};

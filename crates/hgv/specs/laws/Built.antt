@@ -48,10 +48,17 @@ module _ (w : ℕ) (head : List ℕ) (ls : List (List ℕ)) (foot : List ℕ)
     built_lines_in = rw (wide, body_length_lem) (mul-div_cancel (length ls) given)
 
     pub built_lines : lines_of built ≡ ls
-    unfolding lines_of
-    built_lines = rw (wide, built_lines_in, built_body) (chop_flat w lined)
+    unfolding lines_of lines_in
+    built_lines = rw (wide, body_length_lem, mul-div_cancel (length ls) given, built_body) (chop_flat w lined)
 
     pub built_holds : length ls ≤ lines_most → length_holds built ≡ true
-    unfolding length_holds
+    unfolding length_holds lines_in
     built_holds few =
-        rw (le-leb (header_length + footer_length) (length built) (omega (arith, built_length)), wide, body_length_lem, mul-mod_left (length ls) w, built_lines_in, le-leb (length ls) lines_most few)
+        rw (
+          le-leb (header_length + footer_length) (length built) (omega (arith, built_length)),
+          wide,
+          body_length_lem,
+          mul-mod_left (length ls) w,
+          mul-div_cancel (length ls) given,
+          le-leb (length ls) lines_most few,
+        )

@@ -36,7 +36,8 @@ module _ (h : List ℕ) where
   is_width = (omega arith, omega arith)
 
   pub width_has : (k : ℕ) → k ≤ line_length → k ≤ width_of h
-  width_has k l = omega (arith, width_least)
+  unfolding width_of
+  width_has k l = omega arith
 
   pub length_body : length (body h) ≡ body_length h
   unfolding body
@@ -52,8 +53,8 @@ module _ (h : List ℕ) where
   length_lines = length_chop (width_of h) (lines_in h) (body h)
 
   pub each_line : Each (λ l. length l ≡ width_of h) (lines_of h)
-  unfolding lines_of
-  each_line = each_chop (width_of h) (lines_in h) (body h) lines_room
+  unfolding lines_of lines_in
+  each_line = each_chop (width_of h) (lines_in h) (body h) (omega (arith, length_body, div-add-mod' (body_length h) (width_of h)))
 
   module _ (e : length_holds h ≡ true) where
     pub length_least : header_length + footer_length ≤ length h
@@ -68,7 +69,10 @@ module _ (h : List ℕ) where
         omega (arith, length_body, div-add-mod' (body_length h) (width_of h))
 
     pub length_whole : length h ≡ header_length + footer_length + lines_in h * width_of h
-    length_whole = omega (arith, length_least, length_lined, length_body)
+    unfolding length_holds lines_in
+    length_whole =
+        let z : body_length h % width_of h ≡ 0 = eqb-true (body_length h % width_of h) 0 (and_right (long h) (lined h) (and_left (long h && lined h) (few h) e)) in
+        omega (arith, length_least, div-add-mod' (body_length h) (width_of h))
 
     pub lines_most_lem : lines_in h ≤ lines_most
     unfolding length_holds

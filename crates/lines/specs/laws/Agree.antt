@@ -83,12 +83,21 @@ module _ (p q : List ℕ) (n : length p ≡ 96) where
 
   -- any two weights of four digits
   pub unweighed : (v w : List ℕ) → run digit 4 v ≡ true → run digit 4 w ≡ true → record_holds (p ++ (v ++ q)) ≡ record_holds (p ++ (w ++ q))
-  unfolding valid_to_holds
+  unfolding valid_to_holds record_holds L1 L5 L6 L7 L8 L9
   unweighed v w d e =
       let m : length v ≡ 4 = run_length digit 4 v d in
       let o : length w ≡ 4 = run_length digit 4 w e in
-      record_agrees (p ++ (w ++ q)) (p ++ (v ++ q))
-      (λ a b h. before v a b h ∙ sym (before w a b h))
-      (rw (between v m, between w o, d, e))
-      (rw (behind v m 101 114 (omega arith), behind w o 101 114 (omega arith)))
-      (λ a b h. let s = positions_within 115 127 a b h in behind v m a b (omega (arith, s.0)) ∙ sym (behind w o a b (omega (arith, s.0))))
+      let front : (a b : ℕ) → leb 2 a && leb a b && leb b 96 ≡ true → field a b (p ++ (v ++ q)) ≡ field a b (p ++ (w ++ q)) =
+      λ a b h. before v a b h ∙ sym (before w a b h) in
+      rw (
+        vehicle (p ++ (w ++ q)) (p ++ (v ++ q)) front
+            (rw (between v m, between w o, d, e))
+            (rw (behind v m 101 114 (omega arith), behind w o 101 114 (omega arith)))
+            (λ a b h. let s = positions_within 115 127 a b h in behind v m a b (omega (arith, s.0)) ∙ sym (behind w o a b (omega (arith, s.0)))),
+        front 2 7 refl,
+        front 14 32 refl,
+        front 33 42 refl,
+        front 43 45 refl,
+        front 50 61 refl,
+        front 62 79 refl,
+      )

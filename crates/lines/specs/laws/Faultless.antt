@@ -88,5 +88,5 @@ module _ (rows sender l : List ℕ) where
 
   -- so it is a record of the sender
   pub faultless_record : Faultless rows sender l → run digit 6 sender ≡ true → record_holds l ≡ true
-  unfolding line_fault line_rules L10
-  faultless_record f d = (passes_record (L10 l) (and_left (vehicle_holds l) (weight_holds l)) d (faultless_none f)).1
+  unfolding record_holds L2 L10
+  faultless_record f d = rw (eqs_true (actor l) sender f.l2, d, f.l1, f.l5, f.l6, f.l7, f.l8, f.l9, and_left (vehicle_holds l) (weight_holds l) f.l10)

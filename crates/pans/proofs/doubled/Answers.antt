@@ -1,0 +1,5 @@
+use Rattle.pans.proofs.Laws.{listed}
+use Rattle.pans.proofs.doubled.Goals as goal
+
+pub returns : goal.returns
+returns c = listed _ c.requires.0 _ c.requires.1
