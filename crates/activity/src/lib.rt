@@ -1,4 +1,6 @@
 // Whether a record is active at a time: what a lookup asks of a record, and a sweep.
+#![tactic(auto)]
+
 ghost use Rattle.activity.specs.Promises.{IsActive};
 
 pub fn is_active(r: &[u8], t: &[u8]) -> bool

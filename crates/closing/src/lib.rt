@@ -1,4 +1,6 @@
 // A block of slots closed up in place over a block of marks: a slot stays where it has a mark and that is 0.
+#![tactic(auto)]
+
 ghost use Rattle.std.specs.Prelude.{◌≡◌, ◌+◌, ◌*◌, ◌≤◌, length};
 ghost use Rattle.sizes.specs.Sizes.{slot_length};
 ghost use Rattle.theory.specs.Count.{bump};

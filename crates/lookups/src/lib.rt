@@ -1,5 +1,7 @@
 // The lookups by PAN and by plate: each searches once, and answers with its number and with the slot itself, the
 // caller's own bytes; a refusal answers with an empty part.
+#![tactic(auto)]
+
 ghost use Rattle.std.specs.Prelude.{◌≡◌, ◌+◌, ◌*◌, ◌≤◌, length};
 ghost use Rattle.theory.specs.Keep.{sift};
 ghost use Rattle.theory.specs.Parts.{part_at};
@@ -10,14 +12,14 @@ ghost use Rattle.lookups.specs.Lookup.{unless_refused, found_at, fits_plate};
 ghost use Rattle.lookups.specs.Promises.{FindByPan, ByPan, FindByPlate, ByPlate};
 
 // What a lookup found: 0 or its number, and the place of the record, 0 at a refusal.
-#[derive(Drop)]
+#[derive(Clone, Copy)]
 pub struct Found {
     pub number: u64,
     pub place: usize,
 }
 
 // How many slots fit a plate, and the place of the first; where none does, the number of slots.
-#[derive(Drop)]
+#[derive(Clone, Copy)]
 struct Fitting {
     count: usize,
     first: usize,

@@ -1,4 +1,6 @@
 // What a taken line becomes, written into its slot: its record and its stamp.
+#![tactic(auto)]
+
 ghost use Rattle.std.specs.Prelude.{◌≡◌, ◌≤◌, length};
 ghost use Rattle.sizes.specs.Sizes.{slot_length, slot_end, stamp_length, time_length};
 ghost use Rattle.writing.specs.Put.{put_field};

@@ -1,4 +1,6 @@
 // The register in order (stop 23): whole slots, the used ones first, each a record, all PANs different.
+#![tactic(auto)]
+
 ghost use Rattle.std.specs.Prelude.{◌≡◌, cond, ◌*◌, ◌≤◌, length};
 ghost use Rattle.theory.specs.laws.Parts.{parts_from};
 ghost use Rattle.theory.specs.Walk.{each};

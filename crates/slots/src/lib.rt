@@ -1,4 +1,6 @@
 // A block of slots, of which the used ones come first: how many they are, and what is looked for in them.
+#![tactic(auto)]
+
 ghost use Rattle.std.specs.Prelude.{◌≡◌};
 ghost use Rattle.slots.specs.Search.{holds_pan, holds_foreign};
 ghost use Rattle.slots.specs.Promises.{IsMarked, UsedSlots, UsedPart, Find, IsOf, IsHeldByAnother, CountOf};

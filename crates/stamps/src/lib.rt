@@ -1,5 +1,7 @@
 // The stamp of a slot: the list that touched its account last, and when that was received. Every public function but the
 // writer takes texts of any length.
+#![tactic(auto)]
+
 ghost use Rattle.std.specs.Prelude.{◌≡◌, length};
 ghost use Rattle.sizes.specs.Sizes.{stamp_length, time_length};
 ghost use Rattle.sequences.specs.Sequence.{list_length};

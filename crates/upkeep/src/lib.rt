@@ -1,1 +1,3 @@
+#![tactic(auto)]
+
 // A register in order stays in order: all of it is in specs/. No function.

@@ -15,7 +15,7 @@ use Rattle.columns.specs.Columns.{text, actor, weight, valid_to}
 use Rattle.vehicles.specs.Vehicle.{valid_to_holds, vehicle_holds}
 use Rattle.vehicles.specs.laws.Parts.{vehicle_parts}
 use Rattle.lines.specs.Rules.{L1, L5, L6, L7, L8, L9, record_holds}
-use Rattle.lines.specs.laws.Coverage.{record_plain}
+use Rattle.lines.proofs.Coverage.{record_plain}
 use Rattle.lines.specs.laws.Agree.{positions_within, record_agrees}
 use Rattle.lines.specs.End.{end_of, record_of}
 use Rattle.records.specs.Slot.{line_least}

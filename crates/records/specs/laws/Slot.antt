@@ -1,5 +1,5 @@
 -- Laws of a slot of a register with a line's record written into it. Assumes nothing.
-use Rattle.std.specs.Prelude.{◌≡◌, List, ℕ, ◌≤◌, ◌<◌, length}
+use Rattle.std.specs.Prelude.{◌≡◌, true, List, ℕ, ◌≤◌, ◌<◌, eqb, length}
 use borrow.Author.Tests.{eq-eqb, le-leb, lt-ltb}
 use Rattle.theory.specs.Parts.{part_at}
 use Rattle.theory.specs.laws.Parts.{whole_fits, length_part}
@@ -17,7 +17,8 @@ module _ (s l : List ℕ) (long : line_least ≤ length l) (sized : length s ≡
   written_there slot h = rw (eq-eqb (length slot) slot_length h, le-leb line_least (length l) long, eq-eqb (length s) stamp_length sized)
 
   pub put_there : (i : ℕ) (b : List ℕ) → i < slots_in b → put_record i s l b ≡ put_part slot_length i (slot_of s l) b
-  unfolding put_record
+  unfolding put_record written fits
   put_there i b h =
-      rw (lt-ltb i (slots_in b) h)
-      (put_ap slot_length i b (written_there (part_at slot_length i b) (length_part slot_length i b (whole_fits slot_length i (length b) h))))
+      let n : length (part_at slot_length i b) ≡ slot_length = length_part slot_length i b (whole_fits slot_length i (length b) h) in
+      let p : eqb (length (part_at slot_length i b)) slot_length ≡ true = eq-eqb (length (part_at slot_length i b)) slot_length n in
+      rw (lt-ltb i (slots_in b) h) (put_ap slot_length i b (rw (p, le-leb line_least (length l) long, eq-eqb (length s) stamp_length sized)))

@@ -22,7 +22,8 @@ use Rattle.lines.specs.laws.Agree.{positions_within, record_agrees}
 use Rattle.lines.specs.End.{record_of}
 use Rattle.sequences.specs.Sequence.{sequence}
 use Rattle.stamps.specs.Stamp.{stamp_in, reception_in, stamp, stamp_holds}
-use Rattle.stamps.specs.laws.Stamp.{Stamped, stamped, stamp_holds_lem}
+use Rattle.stamps.specs.laws.Stamp.{Stamped, stamped}
+use Rattle.stamps.proofs.Held.{stamp_holds_lem}
 use Rattle.slots.specs.Search.{of_actor}
 use Rattle.records.specs.Slot.{slot_of, storable, line_least}
 use Rattle.records.specs.laws.Written.{length_record, record_front, record_first, record_last}

@@ -1,6 +1,6 @@
 -- The records of a block are its first slots, and the used part is their bytes. Assumes nothing.
 use Rattle.std.specs.Prelude.{◌≡◌, not, List, ℕ, ◌*◌, ◌≤◌, length, take}
-use Rattle.std.proofs.Common.{sym, ap, ◌∙◌, arith, mul-le-mul_right, div-mul-le_self, mul-div_cancel, length-take-le}
+use Rattle.std.proofs.Common.{sym, ◌∙◌, arith, mul-le-mul_right, div-mul-le_self, mul-div_cancel, length-take-le}
 use Rattle.theory.specs.Parts.{chop}
 use Rattle.theory.specs.laws.Parts.{length_chop}
 use Rattle.theory.specs.laws.Join.{chop_take}
@@ -40,8 +40,8 @@ slots_used b = slots_front b (used_in b) (used_fits b) ∙ sym (records_chop b)
 
 -- and it has as many
 pub used_slots : (b : List ℕ) → slots_in (used_part b) ≡ used_in b
-unfolding slots_of
-used_slots b = sym (length_chop slot_length (slots_in (used_part b)) (used_part b)) ∙ ap length (slots_used b)
+unfolding used_part
+used_slots b = rw (length-take-le (used_in b * slot_length) b (used_fits b)) (mul-div_cancel (used_in b) (omega arith))
 
 -- as the code learns how many are used
 pub used_room : (b : List ℕ) (used : ℕ) → used ≡ used_in b → used * slot_length ≤ length b

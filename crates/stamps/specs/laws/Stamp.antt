@@ -6,15 +6,13 @@ use Rattle.std.proofs.Math.ListN.{length-append}
 use Rattle.theory.specs.Text.{bytes}
 use Rattle.theory.specs.Each.{Each, none, more}
 use Rattle.theory.specs.laws.Truth.{joined, joined_each}
-use Rattle.theory.specs.Every.{all, run}
+use Rattle.theory.specs.Every.{run}
 use Rattle.sizes.specs.Sizes.{stamp_length, time_length}
 use Rattle.texts.specs.Field.{field}
 use Rattle.texts.specs.laws.Field.{field_before, field_behind, field_all}
 use Rattle.fields.specs.Field.{zero_digit}
 use Rattle.times.specs.Time.{real_time}
-use Rattle.times.specs.laws.Moment.{real_length}
 use Rattle.sequences.specs.Sequence.{list_length, sequence}
-use Rattle.sequences.specs.laws.Length.{sequence_length}
 use Rattle.stamps.specs.Stamp.{list_in, reception_in, stamp, stamp_holds}
 
 -- ---- what is written
@@ -45,17 +43,9 @@ module _ (list reception : List ℕ) (n : length list ≡ list_length) (m : leng
       ∙ field_behind 20 33 19 list reception n (omega arith)
       ∙ field_all 14 reception (omega (arith, m))
 
-  stamp_zeros : field 34 40 (stamp list reception) ≡ bytes "0000000"
+  pub stamp_zeros : field 34 40 (stamp list reception) ≡ bytes "0000000"
   unfolding stamp front
   stamp_zeros = field_behind 34 40 33 front (bytes "0000000") size_front (omega arith) ∙ field_all 7 (bytes "0000000") (omega arith)
-
-  pub stamp_held : (who : List ℕ) → sequence who list ≡ true → real_time reception ≡ true → stamp_holds who (stamp list reception) ≡ true
-  unfolding stamp_holds run all
-  stamp_held who s t = rw (length_stamp, stamp_list, stamp_reception, stamp_zeros, s, t)
-
--- a list of the actor, and a real time
-pub stamp_holds_lem : (who list reception : List ℕ) → sequence who list ≡ true → real_time reception ≡ true → stamp_holds who (stamp list reception) ≡ true
-stamp_holds_lem who list reception s t = stamp_held list reception (sequence_length who list s) (real_length reception t) who s t
 
 -- ---- what has the form
 
