@@ -1,5 +1,7 @@
 // The taken lines of a file applied to a register in place: in mode 2 the sender's records first go, then each line is
 // stored under its PAN.
+#![tactic(auto)]
+
 ghost use Rattle.std.specs.Prelude.{◌≡◌, true, cond, ◌*◌, ◌≤◌, length};
 ghost use Rattle.theory.specs.Each.{Each};
 ghost use Rattle.sizes.specs.Sizes.{time_length};

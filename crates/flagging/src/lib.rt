@@ -1,5 +1,7 @@
 // The verdicts of lines whose places are known: where each line's PAN stands in the register, and which of the lines is the
 // first that has it. L11 looks at one slot, and L12 at one flag.
+#![tactic(auto)]
+
 ghost use Rattle.std.specs.Prelude.{◌≡◌, true, ◌||◌, map, ◌*◌, ◌≤◌, length, replicate};
 ghost use Rattle.theory.specs.First.{first, choose};
 ghost use Rattle.theory.specs.laws.First.{otherwise};

@@ -1,4 +1,6 @@
 // The confirmation (HGC) of an HGV, written into a block that has room for it.
+#![tactic(auto)]
+
 pub mod places;
 
 ghost use Rattle.std.specs.Prelude.{◌≡◌, true, ◌+◌, ◌*◌, ◌-◌, ◌≤◌, length};

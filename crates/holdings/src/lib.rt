@@ -1,5 +1,7 @@
 // What the register then holds: where the taken lines' PANs stand among its records, and how many slots are used when the
 // lines have been applied (stop 33).
+#![tactic(auto)]
+
 ghost use Rattle.std.specs.Prelude.{◌≡◌, ◌&&◌, ◌*◌, ◌≤◌, ◌<◌, length};
 ghost use Rattle.theory.specs.Count.{bump};
 ghost use Rattle.theory.specs.Keep.{sift};

@@ -1,4 +1,6 @@
 // The import of an HGV, the plain engine: form, verdicts, and what follows from them.
+#![tactic(auto)]
+
 ghost use Rattle.std.specs.Prelude.{◌≡◌, length};
 ghost use Rattle.offsets.specs.Offset.{reception_holds};
 ghost use Rattle.offsets.specs.Ahead.{offset_of};

@@ -2,7 +2,7 @@
 use mathlib.Core.Path.{◌≡◌, sym, ◌∙◌}
 use mathlib.Core.Bool.{Bool, true}
 use mathlib.Core.List.{List, ◌++◌}
-use Prim.Native.Nat.{ℕ, ◌+◌, ◌-◌, ◌*◌, ◌≤◌}
+use Prim.Native.Nat.{ℕ, ◌-◌, ◌*◌, ◌≤◌}
 use native.Mathlib.Omega.{arith}
 use lib.Dec.{ltb}
 use lib.ListN.{length, drop}
@@ -39,7 +39,8 @@ use Rattle.offsets.specs.laws.Shift.{offset_most, received}
 use Rattle.imports.specs.Handed.{Handed}
 use Rattle.imports.specs.Import.{judged, following, shown, confirmed, judged_stops, timed, success, register_written, hgc_written}
 use Rattle.imports.specs.laws.Numbers.{Formed, formed_received, Passed, judged_passed}
-use Rattle.imports.specs.laws.Accepted.{Accepted, verdict_each, lines_there, verdicts_most, lines_are, lines_storable, lines_made, lines_apart, lines_free, following_used, confirmed_length}
+use Rattle.imports.specs.laws.Accepted.{Accepted, verdict_each, lines_there, verdicts_most, lines_are, lines_storable, lines_apart, lines_free, confirmed_length}
+use Rattle.imports.proofs.Room.{lines_made, following_used}
 
 -- vs are the verdicts, and r of them reject their line
 module _ (f : Handed) (register vs : List ℕ) (r : ℕ)

@@ -1,5 +1,7 @@
 // What an import is, and its part behind the verdicts, which both engines share: the stops 35, 33 and 34, the register and the
 // HGC. Everything is checked before the first byte is written.
+#![tactic(auto)]
+
 ghost use Rattle.std.specs.Prelude.{◌≡◌, true, ◌≤◌, length};
 ghost use Rattle.theory.specs.First.{first};
 ghost use Rattle.theory.specs.Pick.{good, bad};
@@ -18,7 +20,7 @@ ghost use Rattle.imports.specs.laws.Accepted.{Accepted};
 ghost use Rattle.imports.specs.Promises.{ImportJudged, Refused};
 
 // 0 and the three numbers, or the number of a stop and zero counts.
-#[derive(Drop)]
+#[derive(Clone, Copy)]
 pub struct Imported {
     pub number: u64,
     pub taken: u64,
@@ -27,7 +29,7 @@ pub struct Imported {
 }
 
 // How many lines were taken, and how many rejected.
-#[derive(Drop)]
+#[derive(Clone, Copy)]
 struct Counts {
     taken: u64,
     rejected: u64,

@@ -1,5 +1,7 @@
 // The import of an HGV by an index that the caller lends: the same answer, register and HGC as the import, where the index
 // has a number for each slot. Only how the lines are judged differs.
+#![tactic(auto)]
+
 ghost use Rattle.std.specs.Prelude.{◌≡◌, ◌≤◌, length};
 ghost use Rattle.offsets.specs.Offset.{reception_holds};
 ghost use Rattle.offsets.specs.Ahead.{offset_of};

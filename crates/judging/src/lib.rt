@@ -1,5 +1,7 @@
 // The verdicts of a file, as `verdicts` gives them, in near-linear time: where each line's PAN stands in the register, and
 // which line of the file is the first that has it, is found for all lines at once; `flagging` judges the lines by both.
+#![tactic(auto)]
+
 ghost use Rattle.std.specs.Prelude.{◌≡◌, true, map, ◌*◌, ◌≤◌, length, replicate};
 ghost use Rattle.theory.specs.Parts.{chop};
 ghost use Rattle.theory.specs.Distinct.{distinct};

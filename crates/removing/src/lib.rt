@@ -1,4 +1,6 @@
 // Records removed from a register in place: those that are marked go, the others close up in order.
+#![tactic(auto)]
+
 ghost use Rattle.std.specs.Prelude.{◌≡◌, true, map, ◌*◌, ◌≤◌, length};
 ghost use Rattle.theory.specs.Parts.{chop};
 ghost use Rattle.sizes.specs.Sizes.{slot_length};

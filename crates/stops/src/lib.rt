@@ -1,4 +1,6 @@
 // The stops of an import that look at what was handed over, before any line is judged.
+#![tactic(auto)]
+
 ghost use Rattle.std.specs.Prelude.{◌≡◌};
 ghost use Rattle.theory.specs.First.{first};
 ghost use Rattle.stops.specs.Stops.{addressed, call_stops, file_stops};

@@ -1,5 +1,7 @@
 // The taken lines of a file stored in a register in place, each under its PAN: in the slot that has it, or in the next free
 // one.
+#![tactic(auto)]
+
 ghost use Rattle.std.specs.Prelude.{◌≡◌, true, cond, ◌*◌, ◌≤◌, eqb, ltb, length};
 ghost use Rattle.theory.specs.Count.{bump};
 ghost use Rattle.theory.specs.Pick.{good};

@@ -1,4 +1,6 @@
 // A full list that is too thin (stop 35).
+#![tactic(auto)]
+
 ghost use Rattle.std.specs.Prelude.{◌≤◌};
 ghost use Rattle.sizes.specs.Sizes.{lines_most};
 ghost use Rattle.thinness.specs.Promises.{IsThin};

@@ -1,5 +1,7 @@
 // The verdicts of a file: each line by L1 to L10, by the register as it was (L11), and by the lines taken before it
 // (L12). 0 is taken, any other number the reason.
+#![tactic(auto)]
+
 ghost use Rattle.std.specs.Prelude.{◌≡◌, ◌+◌, ◌*◌, ◌≤◌, length};
 ghost use Rattle.theory.specs.First.{first};
 ghost use Rattle.theory.specs.Parts.{chop, part_at};

@@ -14,7 +14,8 @@ use Rattle.columns.specs.Columns.{pan_of}
 use Rattle.slots.specs.Search.{holds_pan, of_actor, holds_foreign, held_by_another}
 use Rattle.holdings.specs.Holdings.{stored_on, stored, stored_all, others, replaced_all, holdings}
 use Rattle.sizes.specs.Modes.{is_full}
-use Rattle.holdings.specs.laws.Storing.{stored_grows, free_stored, others_all, others_replaced}
+use Rattle.holdings.specs.laws.Storing.{stored_grows, free_stored, others_replaced}
+use Rattle.holdings.proofs.Storing.{others_all}
 use Rattle.upkeep.specs.laws.Makes.{each_made}
 use Rattle.applying.specs.Fit.{Fit}
 

@@ -7,7 +7,8 @@ use Rattle.sizes.specs.Modes.{is_full}
 use Rattle.columns.specs.Columns.{pan_of}
 use Rattle.slots.specs.Search.{holds_pan}
 use Rattle.holdings.specs.Holdings.{stored_all, others, replaced_all, holdings}
-use Rattle.holdings.specs.laws.Storing.{all_new, new_others}
+use Rattle.holdings.specs.laws.Storing.{new_others}
+use Rattle.holdings.proofs.Storing.{all_new}
 use Rattle.upkeep.specs.laws.Makes.{made_pans, each_made}
 use Rattle.applying.specs.Fit.{Fit}
 

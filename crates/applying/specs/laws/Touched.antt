@@ -15,7 +15,7 @@ use Rattle.stamps.specs.Stamp.{stamp_in}
 use Rattle.records.specs.Slot.{slot_of, storable}
 use Rattle.records.specs.laws.Stamped.{slot_stamp}
 use Rattle.holdings.specs.Holdings.{others, holdings}
-use Rattle.holdings.specs.laws.Touched.{each_all}
+use Rattle.holdings.proofs.Touched.{each_all}
 use Rattle.upkeep.specs.laws.Makes.{made_pans}
 use Rattle.applying.specs.Fit.{Fit}
 use Rattle.applying.specs.laws.Prepared.{prepared, prepared_stored}

@@ -1,23 +1,21 @@
 -- Laws of how many slots are used when lines have been applied. Assumes nothing.
 use Rattle.std.specs.Prelude.{◌≡◌, Bool, not, cond, ◌&&◌, length, take, drop}
 use Rattle.std.proofs.Math.Path.{refl}
-use Rattle.std.proofs.Common.{sym, ap₂, ◌∙◌, length-append, eq-eqb}
+use Rattle.std.proofs.Common.{sym, ◌∙◌, length-append, eq-eqb}
 use Rattle.std.proofs.Math.Bool.{true, false}
 use mathlib.Core.List.{List, [], ◌∷◌, ◌++◌, map}
 use Prim.Native.Nat.{ℕ, suc, ◌+◌, ◌*◌, ◌≤◌}
 use native.Mathlib.Omega.{arith}
 use Rattle.std.proofs.lemmas.List.{length-map}
 use Rattle.std.proofs.Math.Seq.{drop-drop}
-use Rattle.theory.specs.Each.{Each, none, more}
 use Rattle.theory.specs.Keep.{sift}
-use Rattle.theory.specs.laws.Keep.{length_onto, sift_length, length_sift_onto, sift_counts}
+use Rattle.theory.specs.laws.Keep.{sift_length, length_sift_onto, sift_counts}
 use Rattle.theory.specs.Parts.{chop, part_at}
 use Rattle.theory.specs.laws.Parts.{length_chop}
 use Rattle.theory.specs.Pick.{good, pick}
 use Rattle.theory.specs.Tally.{tally}
 use Rattle.theory.specs.laws.Tally.{tally_pick}
 use Rattle.theory.specs.laws.Place.{place_some}
-use Rattle.theory.specs.Distinct.{distinct}
 use Rattle.columns.specs.Columns.{pan_of}
 use Rattle.slots.specs.Search.{holds_pan, place_of, of_actor, count_of}
 use Rattle.taken.specs.Taken.{taken_in}
@@ -26,7 +24,7 @@ use Rattle.holdings.specs.Holdings.{stored_all, others, replaced_all, holdings}
 use Rattle.sizes.specs.Modes.{is_full}
 use Rattle.holdings.specs.Room.{is_new, used_after, is_behind, used_by}
 use Rattle.holdings.specs.Places.{Told}
-use Rattle.holdings.specs.laws.Storing.{all_most, length_all}
+use Rattle.holdings.specs.laws.Storing.{all_most}
 
 -- no more records follow than there are, and a record for each line
 pub holdings_most : (mode : ℕ) (who : List ℕ) (make : List ℕ → List ℕ) (R ls : List (List ℕ)) → length (holdings mode who make R ls) ≤ length R + length ls
@@ -44,32 +42,6 @@ holdings_most mode who make R ls = go (is_full mode)
 pub used_full : (mode : ℕ) (who : List ℕ) (R ls : List (List ℕ)) → mode ≡ full → used_after mode who R ls + count_of who R ≡ length R + length ls
 unfolding used_after is_full others count_of
 used_full mode who R ls m = rw (eq-eqb mode full m) (omega (arith, sift_counts (of_actor who) R))
-
-module _ (make : List ℕ → List ℕ) where
-  record-pans : {ls : List (List ℕ)} → Each (λ l. pan_of (make l) ≡ pan_of l) ls → map pan_of (map make ls) ≡ map pan_of ls
-  record-pans none = refl
-  record-pans (more h hs) = ap₂ ◌∷◌ h (record-pans hs)
-
-  new_records : (R : List (List ℕ)) {ls : List (List ℕ)} → Each (λ l. pan_of (make l) ≡ pan_of l) ls
-      → length (sift (is_new R) (map make ls)) ≡ length (sift (is_new R) ls)
-  unfolding sift
-  new_records R none = refl
-  new_records R (more {x = l} {xs = ls} h hs) =
-      length_onto (is_new R (make l)) (make l) (sift (is_new R) (map make ls))
-      ∙ rw (h, new_records R hs) (sym (length_onto (is_new R l) l (sift (is_new R) ls)))
-
-  -- it is the number of records that follow
-  pub used_after_lem : (mode : ℕ) (who : List ℕ) (R ls : List (List ℕ)) → Each (λ l. pan_of (make l) ≡ pan_of l) ls → distinct (map pan_of ls) ≡ true
-      → used_after mode who R ls ≡ length (holdings mode who make R ls)
-  unfolding used_after holdings replaced_all
-  used_after_lem mode who R ls p d = go (is_full mode)
-    where
-      xs : List (List ℕ)
-      xs = map make ls
-
-      go : (b : Bool) → cond b (length (others who R) + length ls) (length R + length (sift (is_new R) ls)) ≡ length (cond b (others who R ++ xs) (stored_all R xs))
-      go true = sym (length-append (others who R) xs ∙ rw (length-map ls make))
-      go false = sym (length_all xs R (rw (record-pans p) d) ∙ rw (new_records R p))
 
 -- ---- by the places told
 

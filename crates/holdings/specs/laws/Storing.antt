@@ -1,9 +1,9 @@
 -- Laws of storing records one after the other: their number, their places, and whose they are. Assumes nothing.
 use Rattle.std.specs.Prelude.{◌≡◌, Bool, ◌&&◌, ◌||◌, ℕ, suc, ◌+◌, ◌≤◌, ◌<◌, length, set}
 use Rattle.std.proofs.Math.Path.{refl, ap}
-use Rattle.std.proofs.Common.{sym, ◌∙◌, true≢false, arith}
+use Rattle.std.proofs.Common.{◌∙◌, true≢false, arith}
 use Rattle.std.proofs.Math.Bool.{true, false, not}
-use mathlib.Core.List.{List, [], ◌∷◌, ◌++◌, map, append_assoc, append-nil}
+use mathlib.Core.List.{List, [], ◌∷◌, ◌++◌, map, append-nil}
 use Rattle.theory.specs.laws.Truth.{and_none, or_left, or_right, or_both}
 use Rattle.theory.specs.Same.{eqs, mem}
 use Rattle.theory.specs.laws.Same.{eqs_true}
@@ -11,12 +11,9 @@ use Rattle.theory.specs.Each.{Each, none, more}
 use Rattle.theory.specs.laws.Each.{each_map}
 use Rattle.theory.specs.Walk.{some}
 use Rattle.theory.specs.Count.{bump}
-use Rattle.theory.specs.laws.Count.{bump_add}
 use Rattle.theory.specs.Keep.{onto, sift}
-use Rattle.theory.specs.laws.Keep.{length_onto, sift_append, sift_none, sift_inside}
+use Rattle.theory.specs.laws.Keep.{sift_append, sift_none, sift_inside}
 use Rattle.theory.specs.Place.{place, place_on}
-use Rattle.theory.specs.Distinct.{distinct}
-use Rattle.theory.specs.laws.Distinct.{distinct_head, distinct_tail}
 use Rattle.columns.specs.Columns.{pan_of}
 use Rattle.slots.specs.Search.{holds_pan, place_of, of_actor, holds_foreign, held_by_another}
 use Rattle.holdings.specs.Holdings.{stored_on, stored, stored_all, others}
@@ -56,12 +53,13 @@ length_stored x (r ∷ R) = go (holds_pan (pan_of x) r) (some (holds_pan (pan_of
     go false false ih = ap suc ih
 
 pub stored_grows : (x : List ℕ) (R : List (List ℕ)) → length R ≤ length (stored x R)
-unfolding bump
-stored_grows x R = rw (length_stored x R) (go (is_new R x))
+unfolding stored stored_on
+stored_grows x [] = omega arith
+stored_grows x (r ∷ R) = go (holds_pan (pan_of x) r) (stored_grows x R)
   where
-    go : (b : Bool) → length R ≤ bump b (length R)
-    go true = omega arith
-    go false = omega arith
+    go : (b : Bool) → length R ≤ length (stored x R) → suc (length R) ≤ length (stored_on b x r R (stored x R))
+    go true ih = omega arith
+    go false ih = omega arith
 
 pub all_grows : (xs R : List (List ℕ)) → length R ≤ length (stored_all R xs)
 unfolding stored_all
@@ -69,14 +67,19 @@ all_grows [] R = omega arith
 all_grows (x ∷ xs) R = omega (arith, stored_grows x R, all_grows xs (stored x R))
 
 -- by no more than one each
-pub all_most : (xs R : List (List ℕ)) → length (stored_all R xs) ≤ length R + length xs
-unfolding stored_all bump
-all_most [] R = omega arith
-all_most (x ∷ xs) R = omega (arith, length_stored x R, one (is_new R x), all_most xs (stored x R))
+stored_most : (x : List ℕ) (R : List (List ℕ)) → length (stored x R) ≤ suc (length R)
+unfolding stored stored_on
+stored_most x [] = omega arith
+stored_most x (r ∷ R) = go (holds_pan (pan_of x) r) (stored_most x R)
   where
-    one : (b : Bool) → bump b (length R) ≤ suc (length R)
-    one true = omega arith
-    one false = omega arith
+    go : (b : Bool) → length (stored x R) ≤ suc (length R) → length (stored_on b x r R (stored x R)) ≤ suc (suc (length R))
+    go true ih = omega arith
+    go false ih = omega arith
+
+pub all_most : (xs R : List (List ℕ)) → length (stored_all R xs) ≤ length R + length xs
+unfolding stored_all
+all_most [] R = omega arith
+all_most (x ∷ xs) R = omega (arith, stored_most x R, all_most xs (stored x R))
 
 -- another PAN is held after as before
 pub held_other : (p x : List ℕ) (R : List (List ℕ)) → eqs (pan_of x) p ≡ false → some (holds_pan p) (stored x R) ≡ some (holds_pan p) R
@@ -111,32 +114,6 @@ unfolding mem
 apart x [] h = none
 apart x (y ∷ xs) h = more (or_left (eqs (pan_of x) (pan_of y)) (mem (pan_of x) (map pan_of xs)) h) (apart x xs (or_right (eqs (pan_of x) (pan_of y)) (mem (pan_of x) (map pan_of xs)) h))
 
--- as many more as are new
-pub length_all : (xs R : List (List ℕ)) → distinct (map pan_of xs) ≡ true → length (stored_all R xs) ≡ length R + length (sift (is_new R) xs)
-unfolding stored_all sift
-length_all [] R d = omega arith
-length_all (x ∷ xs) R d =
-    let ih = length_all xs (stored x R) (distinct_tail (pan_of x) (map pan_of xs) d) in
-    let a = apart x xs (distinct_head (pan_of x) (map pan_of xs) d) in
-    ih ∙ rw (sift_same xs (each_map (λ y e. ap not (held_other (pan_of y) x R e)) a), length_stored x R, length_onto (is_new R x) x (sift (is_new R) xs))
-    (bump_add (is_new R x) (length R) (length (sift (is_new R) xs)))
-  where
-    sift_same : {p q : List ℕ → Bool} (ys : List (List ℕ)) → Each (λ y. p y ≡ q y) ys → sift p ys ≡ sift q ys
-    sift_same [] none = refl
-    sift_same (y ∷ ys) (more h hs) = rw (h, sift_same ys hs)
-
--- all new: they come behind, in order
-pub all_new : (xs R : List (List ℕ)) → distinct (map pan_of xs) ≡ true → Each (λ x. some (holds_pan (pan_of x)) R ≡ false) xs → stored_all R xs ≡ R ++ xs
-unfolding stored_all
-all_new [] R d a = sym (append-nil R)
-all_new (x ∷ xs) R d (more h hs) =
-    let k = all_new xs (stored x R) (distinct_tail (pan_of x) (map pan_of xs) d) (still xs hs (apart x xs (distinct_head (pan_of x) (map pan_of xs) d))) in
-    k ∙ rw (stored_new x R h) (append_assoc R (x ∷ []) xs)
-  where
-    still : (ys : List (List ℕ)) → Each (λ y. some (holds_pan (pan_of y)) R ≡ false) ys → Each (λ y. eqs (pan_of x) (pan_of y) ≡ false) ys → Each (λ y. some (holds_pan (pan_of y)) (stored x R) ≡ false) ys
-    still [] none none = none
-    still (y ∷ ys) (more h hs) (more e es) = more (held_other (pan_of y) x R e ∙ h) (still ys hs es)
-
 -- ---- whose they are
 
 module _ (who : List ℕ) where
@@ -168,12 +145,6 @@ module _ (who : List ℕ) where
           → some (holds_foreign p who) (stored_on b x r R (stored x R)) ≡ false
       go true ih h₁ h₂ = rw o (or_both (holds_pan p x && false) (some (holds_foreign p who) R) (and_none (holds_pan p x) false refl) h₂)
       go false ih h₁ h₂ = or_both (holds_foreign p who r) (some (holds_foreign p who) (stored x R)) h₁ ih
-
-  pub others_all : (xs R : List (List ℕ)) → Each (λ x. of_actor who x ≡ true) xs → Each (λ x. held_by_another (pan_of x) who R ≡ false) xs → others who (stored_all R xs) ≡ others who R
-  unfolding stored_all
-  others_all [] R none none = refl
-  others_all (x ∷ xs) R (more o os) (more h hs) =
-      others_all xs (stored x R) os (each_map (λ y k. free_stored (pan_of y) x R o k) hs) ∙ others_stored x R o h
 
   pub others_replaced : (xs R : List (List ℕ)) → Each (λ x. of_actor who x ≡ true) xs → others who (others who R ++ xs) ≡ others who R
   unfolding others

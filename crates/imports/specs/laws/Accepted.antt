@@ -14,7 +14,7 @@ use Rattle.columns.specs.Columns.{pan_of}
 use Rattle.lines.specs.Rules.{record_holds, L2}
 use Rattle.lines.specs.Faultless.{Faultless}
 use Rattle.lines.specs.laws.Faultless.{faultless_record}
-use Rattle.records.specs.Slot.{slot_of, storable}
+use Rattle.records.specs.Slot.{storable}
 use Rattle.records.specs.laws.Stamped.{each_storable}
 use Rattle.sizes.specs.Sizes.{lines_most}
 use Rattle.hgv.specs.Layout.{width_of, lines_in, body, lines_of}
@@ -28,11 +28,7 @@ use Rattle.verdicts.specs.laws.Verdict.{length_verdicts, each_faultless, each_fr
 use Rattle.hgc.specs.Confirmation.{confirmation_length}
 use Rattle.hgc.specs.laws.Confirmation.{length_confirmation}
 use Rattle.taken.specs.Taken.{taken_in}
-use Rattle.upkeep.specs.Makes.{Makes}
-use Rattle.upkeep.specs.laws.Makes.{each_makes}
 use Rattle.applying.specs.Fit.{Sought}
-use Rattle.holdings.specs.Room.{used_after}
-use Rattle.holdings.specs.laws.Room.{used_after_lem}
 use Rattle.imports.specs.Handed.{Handed}
 use Rattle.imports.specs.Import.{judged, file_stamp, following, shown, confirmed}
 use Rattle.imports.specs.laws.Numbers.{Formed, formed_received, formed_shown}
@@ -67,16 +63,6 @@ module _ (f : Handed) (register : List ℕ) (c : Formed f register) where
   -- so they can be stored under the file's stamp
   pub lines_storable : Each (λ l. storable (file_stamp f) l ≡ true) ls
   lines_storable = each_storable (sender f.hgv) (list_sequence f.hgv) f.reception (header_list f.hgv c.headed) (formed_received f register c) lines_his lines_hold_lem
-
-  -- and their slots have their PANs and actors
-  pub lines_made : Each (Makes (slot_of (file_stamp f))) ls
-  lines_made = each_makes (file_stamp f) lines_storable
-
-  -- the number of records that follow, as it is reckoned
-  pub following_used : used_after f.mode (sender f.hgv) (records register) ls ≡ length (following f register)
-  unfolding following
-  following_used =
-      used_after_lem (slot_of (file_stamp f)) f.mode (sender f.hgv) (records register) ls (each_map (λ l m. m.pan) lines_made) lines_apart
 
   -- ---- as the code has them: vs are the verdicts
 

@@ -95,12 +95,9 @@ module _ (f : Handed) (register : List ℕ) where
       }
 
   -- 0 is answered only where no stop holds
-  neither : number ≡ 0 → (form_stop f.mode (timed f) register f.rows f.hgv ≡ 0) × (first (judged_stops f register) ≡ 0)
+  pub neither : number ≡ 0 → (form_stop f.mode (timed f) register f.rows f.hgv ≡ 0) × (first (judged_stops f register) ≡ 0)
   unfolding import_number stops form_stop
   neither = by_neither (form_stops f.mode (timed f) register f.rows f.hgv) (judged_stops f register) forms
 
   pub accepted_clear : number ≡ 0 → Formed f register
   accepted_clear e = clear f.mode (timed f) register f.rows f.hgv (neither e).0
-
-  pub accepted_passed : number ≡ 0 → Passed
-  accepted_passed e = judged_passed (neither e).1

@@ -2,7 +2,6 @@
 -- Assumes nothing.
 use Rattle.std.specs.Prelude.{◌≡◌, Bool, List, ℕ, ◌≤◌}
 use Rattle.std.proofs.Math.Path.{refl}
-use Rattle.std.proofs.Common.{sym, ◌∙◌}
 use borrow.Author.Tests.{not-false, ltb-false, le-ltb}
 use Rattle.theory.specs.First.{None, first, choose}
 use Rattle.theory.specs.laws.First.{first_clear, numbered, fits_at, none_at}
@@ -45,17 +44,10 @@ module _ (mode : ℕ) (timed : Bool) (register b h : List ℕ) where
   -- ---- the same with an index of k numbers
   module _ (k : ℕ) where
     -- where it is long enough the stops of form are those of the import
-    indexed_same : slots_in register ≤ k → indexed_form_stop mode timed register b k h ≡ form_stop mode timed register b h
+    pub indexed_same : slots_in register ≤ k → indexed_form_stop mode timed register b k h ≡ form_stop mode timed register b h
     unfolding indexed_form_stop indexed_form_stops form_stop form_stops call_stops index_short first choose
     indexed_same l = rw (le-ltb k (slots_in register) l)
 
-    indexed_long : indexed_form_stop mode timed register b k h ≡ 0 → slots_in register ≤ k
+    pub indexed_long : indexed_form_stop mode timed register b k h ≡ 0 → slots_in register ≤ k
     unfolding indexed_form_stop indexed_form_stops call_stops file_stops index_short numbered fits_at
     indexed_long e = ltb-false k (slots_in register) (none_at 36 (first_clear (indexed_form_stops mode timed register b k h) refl e))
-
-    -- n is what the stops with the index say: none holds, so it is long enough, and none of the import's does
-    pub indexed_none : (n : ℕ) → n ≡ indexed_form_stop mode timed register b k h → n ≡ 0 → (slots_in register ≤ k) × (0 ≡ form_stop mode timed register b h)
-    indexed_none n e z =
-        let none = sym e ∙ z in
-        let l = indexed_long none in
-        (l, sym none ∙ indexed_same l)

@@ -19,7 +19,8 @@ module _ (mode : ℕ) (who : List ℕ) (R : List (List ℕ)) (t : ℕ) where
   full_thin m = rw (eq-eqb mode full m)
 
   pub thin_so : mode ≡ full → 2 * t < count_of who R → thin mode who R t ≡ true
-  thin_so m l = rw (full_thin m, lt-ltb (2 * t) (count_of who R) l)
+  unfolding thin is_full
+  thin_so m l = rw (eq-eqb mode full m, lt-ltb (2 * t) (count_of who R) l)
 
   pub thin_only : thin mode who R t ≡ true → (mode ≡ full) × (2 * t < count_of who R)
   unfolding thin is_full
@@ -27,4 +28,5 @@ module _ (mode : ℕ) (who : List ℕ) (R : List (List ℕ)) (t : ℕ) where
 
   -- where it is not, at least half as many as are held were taken
   pub thick_half : mode ≡ full → thin mode who R t ≡ false → count_of who R ≤ 2 * t
-  thick_half m e = ltb-false (2 * t) (count_of who R) (rw (full_thin m) at e)
+  unfolding thin is_full
+  thick_half m e = ltb-false (2 * t) (count_of who R) (rw (eq-eqb mode full m) at e)
