@@ -1,4 +1,6 @@
 // An account, as a provider gives it, and the line that an HGV has for it.
+#![tactic(auto)]
+
 ghost use Rattle.std.specs.Prelude.{◌≡◌, ◌+◌, ◌-◌, ◌≤◌, length};
 ghost use Rattle.theory.specs.Join.{flat};
 ghost use Rattle.sizes.specs.Sizes.{line_length};

@@ -1,4 +1,6 @@
 // The HGC's layout, as a provider reads it beside its HGV. Every public function takes texts of any length.
+#![tactic(auto)]
+
 ghost use Rattle.answers.specs.Promises.{Width, AnswersIn, Answers, ListSequence, Reception};
 
 use hgc::places;

@@ -1,4 +1,6 @@
 // What an update asks of the mode, of the provider's copy and of the HGV, before it looks at the HGC.
+#![tactic(auto)]
+
 ghost use Rattle.std.specs.Prelude.{◌≡◌};
 ghost use Rattle.copies.specs.Copy.{own_holds};
 ghost use Rattle.copies.specs.Promises.{CopyStop};

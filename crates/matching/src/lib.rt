@@ -1,4 +1,6 @@
 // The lines of an HGV beside those of its HGC (the second half of 52): which were taken, and whether the HGC may say so.
+#![tactic(auto)]
+
 ghost use Rattle.std.specs.Prelude.{◌≡◌, ◌&&◌, map, ◌+◌, ◌*◌, ◌≤◌, eqb, length};
 ghost use Rattle.theory.specs.Same.{eqs};
 ghost use Rattle.theory.specs.Count.{bump};

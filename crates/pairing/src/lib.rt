@@ -1,1 +1,3 @@
+#![tactic(auto)]
+
 // Which lines of an HGV were taken, read off its HGC.

@@ -1,11 +1,13 @@
 // What the provider's functions answer, and whether an HGC holds beside its HGV (52).
+#![tactic(auto)]
+
 ghost use Rattle.std.specs.Prelude.{◌≡◌, length};
 ghost use Rattle.hgv.specs.Layout.{lines_in};
 ghost use Rattle.receipts.specs.Receipt.{marks_of};
 ghost use Rattle.provider.specs.Promises.{Refused, Count, IsReceipt};
 
 // 0 and the two counts, or the number of a stop and zero counts.
-#[derive(Drop)]
+#[derive(Clone, Copy)]
 pub struct Counted {
     pub number: u64,
     pub taken: u64,

@@ -1,4 +1,6 @@
 // An HGC read back beside its HGV: which lines were taken, and the reasons of the others.
+#![tactic(auto)]
+
 ghost use Rattle.std.specs.Prelude.{◌≡◌, true, ◌++◌, ◌≤◌, ◌<◌, length, drop};
 ghost use Rattle.theory.specs.First.{first};
 ghost use Rattle.theory.specs.Count.{bump};

@@ -1,4 +1,6 @@
 // The HGC as a provider reads it: what it says by itself and of its HGV (the first half of 52), for texts of any length.
+#![tactic(auto)]
+
 ghost use Rattle.std.specs.Prelude.{◌≡◌, ◌&&◌};
 ghost use Rattle.hgv.specs.Layout.{width_of};
 ghost use Rattle.hgv.specs.laws.Layout.{IsWidth};

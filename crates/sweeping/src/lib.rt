@@ -1,4 +1,6 @@
 // The sweep: the records that ended by a time go, the rest closes up in order.
+#![tactic(auto)]
+
 ghost use Rattle.std.specs.Prelude.{◌≡◌, true, map, ◌*◌, ◌≤◌, length};
 ghost use Rattle.theory.specs.First.{first};
 ghost use Rattle.theory.specs.Parts.{chop};
@@ -11,7 +13,7 @@ ghost use Rattle.sweeping.specs.Sweep.{ended, staying, sweep_stops};
 ghost use Rattle.sweeping.specs.Promises.{Sweep};
 
 // 0 and how many records went, or the number of a refusal and 0.
-#[derive(Drop)]
+#[derive(Clone, Copy)]
 pub struct Swept {
     pub number: u64,
     pub removed: u64,

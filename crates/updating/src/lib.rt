@@ -1,4 +1,6 @@
 // The update of a provider's copy of the records held for him, by an import of his.
+#![tactic(auto)]
+
 ghost use Rattle.std.specs.Prelude.{◌≡◌, true, ◌≤◌, length};
 ghost use Rattle.theory.specs.First.{first};
 ghost use Rattle.hgv.specs.Layout.{lines_in};

@@ -1,4 +1,6 @@
 // A whole HGV written from the accounts of a provider. Everything is checked before the first byte is written.
+#![tactic(auto)]
+
 ghost use Rattle.std.specs.Prelude.{◌≡◌, true, ◌||◌, map, ◌+◌, ◌*◌, ◌≤◌, length};
 ghost use Rattle.theory.specs.Same.{eqs};
 ghost use Rattle.theory.specs.Parts.{chop};
@@ -17,7 +19,7 @@ ghost use Rattle.writer.specs.Promises.{WriteHgv};
 use header::columns;
 
 // 0 and the file's length, or the number of a refusal.
-#[derive(Drop)]
+#[derive(Clone, Copy)]
 pub struct Written {
     pub number: u64,
     pub length: u64,

@@ -31,20 +31,22 @@ not_not : (b : Bool) → not (not b) ≡ b
 not_not true = refl
 not_not false = refl
 
+neither : (z e : Bool) → not z && not e ≡ not (z || e)
+neither true e = refl
+neither false e = refl
+
 -- it goes exactly where it is not active
 pub ended_is : (t r : List ℕ) → ended t r ≡ not (active t r)
 unfolding ended active
-ended_is t r = go (run zero_digit time_length (valid_to r)) (earlier t (valid_to r))
-  where
-    go : (z e : Bool) → not z && not e ≡ not (z || e)
-    go true e = refl
-    go false e = refl
+ended_is t r = neither (run zero_digit time_length (valid_to r)) (earlier t (valid_to r))
 
 pub stays_active : (t r : List ℕ) → active t r ≡ true → ended t r ≡ false
-stays_active t r h = ended_is t r ∙ ap not h
+unfolding ended active
+stays_active t r h = neither (run zero_digit time_length (valid_to r)) (earlier t (valid_to r)) ∙ ap not h
 
 pub goes_inactive : (t r : List ℕ) → active t r ≡ false → ended t r ≡ true
-goes_inactive t r h = ended_is t r ∙ ap not h
+unfolding ended active
+goes_inactive t r h = neither (run zero_digit time_length (valid_to r)) (earlier t (valid_to r)) ∙ ap not h
 
 -- ---- the records
 
@@ -55,13 +57,15 @@ goes_or_stays t R = sift_counts (ended t) R
 
 -- those that are active stay,
 pub staying_active : (t : List ℕ) (R : List (List ℕ)) → staying t R ≡ sift (active t) R
-unfolding staying
-staying_active t R = sift_same (λ r. not (ended t r)) (active t) (λ r. rw (ended_is t r) (not_not (active t r))) R
+unfolding staying ended active
+staying_active t R =
+    sift_same (λ r. not (ended t r)) (active t) (λ r. ap not (neither (run zero_digit time_length (valid_to r)) (earlier t (valid_to r))) ∙ not_not (active t r)) R
 
 -- and the others go
 pub going_inactive : (t : List ℕ) (R : List (List ℕ)) → going t R ≡ sift (λ r. not (active t r)) R
-unfolding going
-going_inactive t R = sift_same (ended t) (λ r. not (active t r)) (ended_is t) R
+unfolding going ended active
+going_inactive t R =
+    sift_same (ended t) (λ r. not (active t r)) (λ r. neither (run zero_digit time_length (valid_to r)) (earlier t (valid_to r))) R
 
 -- where none goes all stay
 pub none_goes : (t : List ℕ) (R : List (List ℕ)) → length (going t R) ≡ 0 → staying t R ≡ R

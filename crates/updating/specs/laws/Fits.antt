@@ -16,7 +16,7 @@ use Rattle.slots.specs.Slots.{slots_in, records}
 use Rattle.slots.specs.Search.{of_actor, held_by_another}
 use Rattle.holdings.specs.laws.Storing.{own_free}
 use Rattle.holdings.specs.Room.{used_after}
-use Rattle.holdings.specs.laws.Room.{used_after_lem}
+use Rattle.holdings.proofs.Room.{used_after_lem}
 use Rattle.upkeep.specs.Makes.{Makes}
 use Rattle.applying.specs.Fit.{Fit}
 use Rattle.answers.specs.Layout.{list_of, reception_of}

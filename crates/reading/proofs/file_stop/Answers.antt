@@ -1,0 +1,18 @@
+-- One stop after the other.
+use Rattle.theory.specs.First.{first}
+use Rattle.theory.specs.laws.First.{chosen}
+use Rattle.reading.specs.ReadBack.{hgv_stops}
+use mathlib.Core.Path.{refl, ap}
+use mathlib.Core.Bool.{not}
+use Rattle.reading.proofs.file_stop.Goals as goal
+
+pub returns : goal.returns
+unfolding hgv_stops first
+returns c =
+    chosen _ _ _ _ _ _ c.first.ensures (ap not c.has_length.ensures) (
+    chosen _ _ _ _ _ _ c.first-s26.ensures (ap not c.has_header.ensures) (
+    chosen _ _ _ _ _ _ c.first-s27.ensures (ap not c.has_version.ensures) (
+    chosen _ _ _ _ _ _ c.first-s29.ensures (ap not c.has_receiver.ensures) (
+    chosen _ _ _ _ _ _ c.first-s30.ensures (ap not c.has_count.ensures) (
+    chosen _ _ _ _ _ _ c.first-s31.ensures (ap not c.has_footer.ensures) (
+    chosen _ _ _ _ _ _ c.first-s32.ensures (ap not c.has_frames.ensures) refl))))))
