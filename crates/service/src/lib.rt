@@ -1,5 +1,7 @@
 // What Rust calls, on numbers and byte slices: the import. It hands on to the crate that does the work, and writes every
 // number that it is lent, zero at a stop. And the revision of all that Rust calls.
+#![tactic(auto)]
+
 ghost use Rattle.imports.specs.Handed.{handed};
 ghost use Rattle.service.specs.Promises.{GraftspindleImport, GraftspindleRevision};
 

@@ -1,5 +1,7 @@
 // What Rust calls, on numbers and slices: the import by an index that the caller lends. It hands on to the crate that does the
 // work, and writes every number that it is lent, zero at a stop.
+#![tactic(auto)]
+
 ghost use Rattle.imports.specs.Handed.{handed};
 ghost use Rattle.service_indexed.specs.Promises.{GraftspindleImportIndexed};
 

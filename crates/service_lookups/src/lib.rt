@@ -1,5 +1,7 @@
 // What Rust calls for the lookups, on numbers and byte slices: each function hands on to the crate that does the work, and
 // writes both numbers that it is lent, zero at a refusal.
+#![tactic(auto)]
+
 ghost use Rattle.std.specs.Prelude.{◌≡◌, ◌*◌, ◌≤◌, eqb};
 ghost use Rattle.theory.specs.First.{choose};
 ghost use Rattle.sizes.specs.Sizes.{slot_length};

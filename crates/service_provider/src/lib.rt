@@ -1,5 +1,7 @@
 // What Rust calls on the provider's side, on numbers and byte slices: each function hands on to the crate that does the
 // work, and writes every number that it is lent, zero at a stop.
+#![tactic(auto)]
+
 ghost use Rattle.updating.specs.Sent.{sent};
 ghost use Rattle.service_provider.specs.Promises.{GraftspindleReadBack, GraftspindleUpdate};
 

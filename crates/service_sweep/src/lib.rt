@@ -1,5 +1,7 @@
 // What Rust calls for the sweep, on numbers and byte slices: it hands on to the crate that does the work, and writes the number
 // that it is lent, zero at a refusal.
+#![tactic(auto)]
+
 ghost use Rattle.service_sweep.specs.Promises.{GraftspindleSweep};
 
 // The sweep of a register or a copy at a time: 0 or its number; how many records went.

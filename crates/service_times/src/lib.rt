@@ -1,5 +1,7 @@
 // What Rust calls for a time: it hands on to the crate that does the work, and writes the number that it is lent, zero at a
 // refusal.
+#![tactic(auto)]
+
 ghost use Rattle.service_times.specs.Promises.{GraftspindleSeconds};
 
 // The seconds of a real time since 00010101000000, and 0; or 22.

@@ -1,4 +1,6 @@
 // What Rust calls to write a list: it hands on to the writer, and writes the length that it is lent, zero at a refusal.
+#![tactic(auto)]
+
 ghost use Rattle.writer.specs.Given.{given};
 ghost use Rattle.service_writer.specs.Promises.{GraftspindleWrite};
 
