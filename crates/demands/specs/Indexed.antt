@@ -51,8 +51,10 @@ module _ (k : ℕ) (f : Handed) (register : List ℕ) (r : Imported) (b g : List
   pub step_same : r.number ≡ 0 → Import f register r b g
   step_same = laws.step_same k f register r b g o
 
-  pub any_indexed : {n : ℕ} {es : List Event} → Ours n register es → (vs : List Event) × Ours n b vs
-  any_indexed = laws.any_indexed k f register r b g o
+  -- (`any_indexed`, proofs/Indexed)
+  module _ {n : ℕ} {es : List Event} (ours : Ours n register es) where
+    abbrev pub AnyIndexed : Type 0
+    AnyIndexed = (vs : List Event) × Ours n b vs
 
 -- "in the indexed import only"
 pub import_unasked : (f : Handed) (register : List ℕ) (r : Imported) (b g : List ℕ) → Import f register r b g → r.number ≡ 36 → ⊥

@@ -14,6 +14,7 @@ use Rattle.sizes.specs.Sizes.{slot_length, full}
 use Rattle.header.specs.Header.{sender}
 use Rattle.hgv.specs.Layout.{lines_of}
 use Rattle.slots.specs.Slots.{slots_in, records, used_in}
+use Rattle.slots.specs.Search.{of_actor}
 use Rattle.register.specs.Register.{in_order}
 use Rattle.lookups.specs.Promises.{ByPlate}
 use Rattle.imports.specs.declared.Imported.{Imported}
@@ -70,7 +71,8 @@ module _ (t register : List ℕ) (r : Swept) (b : List ℕ) (o : Sweep t registe
 
     -- keeping a provider's records and sweeping commute
     pub own_swept : (who : List ℕ) → own who (records b) ≡ sift (active t) (own who (records register))
-    own_swept who = rw (sweep_holds t register r b o z).held (laws.own_staying who t (records register) ∙ staying_active t (own who (records register)))
+    unfolding own
+    own_swept who = rw (sweep_holds t register r b o z).held (laws.sift_staying who t (records register) ∙ staying_active t (sift (of_actor who) (records register)))
 
   -- a lookup by plate at any time from T on answers after it what it answered before: the same number, and the same bytes
   pub plate_same : (p n t' : List ℕ) → earlier t' t ≡ false → (part part' : List ℕ) (number number' : ℕ)

@@ -1,6 +1,6 @@
 -- Request 3: what the weight's code says. Each sentence of it, and under it the theorem that says so. What a code covers and what a tariff
 -- prices, in kilograms, stands in weights/Kilograms; imports under other limits than today's (`AcceptedUnder`, `OursUnder`) stand in
--- Weighed. Assumes nothing.
+-- Weighed. Where a theorem stands here by its statement alone, a type, the theorem of that type stands in proofs/Weights. Assumes nothing.
 use Rattle.std.specs.Prelude.{◌≡◌, refl, Bool, true, List, [], ◌++◌, ℕ, ◌≤◌, ◌<◌, length, take, drop, get_or}
 use Rattle.theory.specs.Every.{run}
 use Rattle.theory.specs.Join.{flat}
@@ -29,7 +29,6 @@ use Rattle.demands.specs.Verdicts.{Verdicts}
 use Rattle.demands.specs.Weighed.{in_order_before, receipt_holds_before, judged_under, AcceptedUnder, own_counts, OursUnder}
 use Rattle.demands.specs.Demand2.{taken_exactly}
 use Rattle.demands.specs.laws.Weighed as laws
-use Rattle.demands.specs.laws.Replays.{stands_under}
 
 -- "So code w above 0 covers 10w + 1 to 10w + 10 kg. From then on, weight given: 12 and 22 need at most 0349; 31 and 32 need at least 0350;
 -- 41 needs 0350 to 1199; 51 needs at least 1200."
@@ -62,22 +61,24 @@ still_holds = laws.receipt_before
 
 -- "Demands 2 and 3 stand with that reading."
 -- They do under any limits of weight, so also for what was accepted under those before. Every accepted import of today is one under today's
-pub today_is_one : (f : Handed) (register : List ℕ) (r : Imported) (b g : List ℕ) → Import f register r b g → r.number ≡ 0
+abbrev pub TodayIsOne : Type 0
+TodayIsOne =
+    (f : Handed) (register : List ℕ) (r : Imported) (b g : List ℕ) → Import f register r b g → r.number ≡ 0
     → AcceptedUnder weight_holds f register b (take r.length g)
-today_is_one = laws.accepted_today
 
 -- What an import under any limits sent back reads back today as it was judged: the same lines, reasons and counts
-pub reads_back : (limit : List ℕ → Bool) (f : Handed) (register b g : List ℕ) → AcceptedUnder limit f register b g
+abbrev pub ReadsBack : Type 0
+ReadsBack =
+    (limit : List ℕ → Bool) (f : Handed) (register b g : List ℕ) → AcceptedUnder limit f register b g
     → (block : List ℕ) (u : Counted) (w : List ℕ) → ReadBack f.hgv g block u w → lines_in f.hgv ≤ length block
     → (u ≡ own_counts (judged_under limit f register)) × (w ≡ judged_under limit f register ++ drop (lines_in f.hgv) block)
-reads_back = laws.read_under
 
 -- And for every sequence of imports, each under the limits of its day, and of sweeps, every provider, and every replay today of what is his
 module _ {n : ℕ} {register : List ℕ} {es : List Event} (ours : OursUnder n register es) (who : List ℕ) {copy : List ℕ} {us : List Answer} (replay : Replay n (entries (his who es)) copy us) where
   -- each of his updates answered 0, with that import's own taken and rejected, each of his sweeps with our number and his part of what went,
-  pub each_answered : us ≡ answers who (his who es)
-  each_answered = ((stands_under ours who).replayed copy us replay).1
+  abbrev pub EachAnswered : Type 0
+  EachAnswered = us ≡ answers who (his who es)
 
   -- and his copy holds, byte for byte and in order, the records we hold for him
-  pub copy_is : copy ≡ flat (pad slot_length n (own who (records register)))
-  copy_is = ((stands_under ours who).replayed copy us replay).0.bytes
+  abbrev pub CopyIs : Type 0
+  CopyIs = copy ≡ flat (pad slot_length n (own who (records register)))

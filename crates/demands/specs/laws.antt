@@ -3,7 +3,6 @@ pub mod Sound
 pub mod ReadBack
 pub mod Read
 pub mod Own
-pub mod Mirror
 pub mod Imports
 pub mod Answered
 pub mod Weighed

@@ -1,1 +1,3 @@
+#![tactic(auto)]
+
 // The idle builds, shut out.

@@ -7,7 +7,6 @@ use Rattle.theory.specs.Join.{flat}
 use Rattle.times.specs.Time.{real_time}
 use Rattle.times.specs.Seconds.{seconds}
 use Rattle.times.specs.laws.Moment.{real_length}
-use Rattle.weights.specs.Weights.{weight_holds}
 use Rattle.hgc.specs.Confirmation.{head, confirmation}
 use Rattle.offsets.specs.Offset.{local, utc, reception_holds}
 use Rattle.offsets.specs.laws.Shift.{local_real, local_minutes, local_back}
@@ -15,21 +14,22 @@ use Rattle.answers.specs.Layout.{reception_of}
 use Rattle.receipts.specs.Receipt.{receipt_holds}
 use Rattle.imports.specs.declared.Imported.{Imported}
 use Rattle.imports.specs.Handed.{Handed, at}
-use Rattle.imports.specs.Import.{following, register_written}
+use Rattle.imports.specs.Import.{judged, confirmed, following, register_written}
 use Rattle.imports.specs.Shown.{confirmed_as, stops_as, number_as, answer_as, register_as, hgc_as}
 use Rattle.importer.specs.Promises.{Import}
 use Rattle.imports.specs.Promises.{ImportJudged}
 use Rattle.imports.specs.laws.Numbers.{Formed, accepted_clear}
-use Rattle.imports.specs.laws.Shown.{shown_as, zero_as}
+use Rattle.imports.proofs.Room.{accepted_passed}
+use Rattle.imports.proofs.Shown.{shown_as, zero_as}
 use Rattle.provider.specs.declared.Counted.{Counted}
 use Rattle.updating.specs.Sent.{Sent}
 use Rattle.updating.specs.Shown as updates
 use Rattle.updating.specs.Promises.{Update}
-use Rattle.updating.specs.laws.Shown as update-laws
-use Rattle.demands.specs.Weighed.{judged_under}
+use Rattle.updating.proofs.Shown as update_laws
 use Rattle.demands.specs.laws.Imports.{number_is}
 use Rattle.demands.specs.laws.ReadBack.{reception_read}
-use Rattle.demands.specs.laws.Weighed.{accepted_sound, accepted_today}
+use Rattle.demands.specs.laws.Sound.{sound_today}
+use Rattle.demands.specs.laws.Weighed.{hgc_cut}
 
 -- ---- an accepted import
 
@@ -42,9 +42,10 @@ module _ (f : Handed) (register : List ℕ) (r : Imported) (b g : List ℕ) (o :
   told = reception_of (take r.length g)
 
   told_is : told ≡ local f.offset f.reception
+  unfolding confirmed
   told_is =
-      let a = accepted_today f register r b g o z in
-      rw a.sent_back (reception_read f register (judged_under weight_holds f register) (accepted_sound weight_holds f register b (take r.length g) a))
+      rw (hgc_cut f register r b g o z)
+      (reception_read f register (judged register f.rows f.hgv) (sound_today f register c (accepted_passed f register (sym (number_is f register r b g o) ∙ z)).slots))
 
   pub shows_local : (real_time told ≡ true) × (pos (seconds told) ≡ pos (seconds f.reception) +ℤ f.offset *ℤ pos 60)
   shows_local = rw told_is (local_real f.offset f.reception c.received, local_minutes f.offset f.reception c.received)
@@ -104,4 +105,4 @@ pub update_before : (s : Sent) (copy : List ℕ) (u : Counted) (c : List ℕ) �
     → (u ≡ updates.answer_as (receipt_holds s.hgv s.hgc) (reception_of s.hgc) s copy)
     × (c ≡ updates.copy_as (receipt_holds s.hgv s.hgc) (reception_of s.hgc) s copy)
 unfolding Update
-update_before s copy u c i e = let a = update-laws.zero_as s copy e in (i.0 ∙ a.answer, i.1 ∙ a.after)
+update_before s copy u c i e = let a = update_laws.zero_as s copy e in (i.0 ∙ a.answer, i.1 ∙ a.after)

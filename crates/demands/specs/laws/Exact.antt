@@ -28,12 +28,16 @@ use Rattle.upkeep.specs.Holds.{Holds}
 use Rattle.imports.specs.declared.Imported.{Imported}
 use Rattle.imports.specs.Import.{judged, file_stamp, following, confirmed, import_number, success, hgc_written, shown}
 use Rattle.importer.specs.Promises.{Import}
-use Rattle.imports.specs.laws.Follows.{adds_up, holds_following, others_same, places_same}
+use Rattle.imports.specs.laws.Numbers.{accepted_clear}
+use Rattle.imports.proofs.Room.{accepted_passed}
+use Rattle.imports.specs.laws.Follows.{adds_up}
+use Rattle.imports.proofs.Follows.{holds_following, others_same, places_same}
 use Rattle.provider.specs.declared.Counted.{Counted}
 use Rattle.reading.specs.Promises.{ReadBack}
-use Rattle.weights.specs.Weights.{weight_holds}
 use Rattle.demands.specs.Weighed.{own_counts}
-use Rattle.demands.specs.laws.Weighed.{judged_today, accepted_today, read_under}
+use Rattle.demands.specs.laws.Sound.{sound_today}
+use Rattle.demands.specs.laws.Read.{read_sound}
+use Rattle.demands.specs.laws.Weighed.{hgc_cut}
 use Rattle.imports.specs.Handed.{Handed}
 use Rattle.demands.specs.laws.Imports.{number_0, done_is, register_is, hgc_is}
 use Rattle.demands.specs.Verdicts.{Verdicts}
@@ -115,7 +119,7 @@ module _ (f : Handed) (register : List ℕ) (r : Imported) (b g : List ℕ) (o :
 
     module _ (block : List ℕ) (u : Counted) (w : List ℕ) (p : ReadBack f.hgv (take r.length g) block u w) where
       pub read_is : lines_in f.hgv ≤ length block → (u ≡ record { number = 0; taken = r.taken; rejected = r.rejected }) × (w ≡ vs ++ drop (lines_in f.hgv) block)
-      unfolding own_counts
+      unfolding own_counts confirmed
       read_is m =
-          rw (taken_is, rejected_is, ← verdicts_are, ← judged_today f register)
-          (read_under weight_holds f register b (take r.length g) (accepted_today f register r b g o z) block u w p m)
+          rw (taken_is, rejected_is, ← verdicts_are)
+          (read_sound f register (judged register f.rows f.hgv) (sound_today f register (accepted_clear f register e) (accepted_passed f register e).slots) block u w (rw (hgc_cut f register r b g o z) at p) m)

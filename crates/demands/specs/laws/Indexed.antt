@@ -1,8 +1,7 @@
 -- The indexed import beside the import, of any outcomes of both. Assumes nothing.
-use Rattle.std.specs.Prelude.{◌≡◌, Bool, true, false, not, List, [], ◌∷◌, ◌++◌, ℕ, ◌≤◌, ◌<◌, eqb}
+use Rattle.std.specs.Prelude.{◌≡◌, not, List, [], ◌∷◌, ◌++◌, ℕ, ◌≤◌, ◌<◌, eqb}
 use Rattle.std.proofs.Math.Path.{refl, ap}
-use Rattle.std.proofs.Common.{sym, ◌∙◌, true≢false, eqb-true}
-use Rattle.std.proofs.lemmas.Bool.{eqb-false}
+use Rattle.std.proofs.Common.{sym, ◌∙◌, true≢false}
 use Rattle.theory.specs.First.{◌if◌, Decided, first}
 use Rattle.theory.specs.Pick.{bad}
 use Rattle.theory.specs.laws.First.{decided, numbered, numbered_by, first_passes}
@@ -17,9 +16,7 @@ use Rattle.importer.specs.laws.Outcomes.{import_one}
 use Rattle.indexed.specs.Indexed.{indexed_stops, indexed_number}
 use Rattle.indexed.specs.Promises.{ImportIndexed}
 use Rattle.indexed.specs.laws.Same.{as_import, number_short, number_long}
-use Rattle.demands.specs.History.{Event, Ours}
 use Rattle.demands.specs.laws.Imports.{number_is}
-use Rattle.demands.specs.laws.Replays.{goes_on}
 
 module _ (k : ℕ) (f : Handed) (register : List ℕ) (r : Imported) (b g : List ℕ) (o : ImportIndexed k f register r b g) where
   pub is_import : slots_in register ≤ k → Import f register r b g
@@ -52,13 +49,6 @@ module _ (k : ℕ) (f : Handed) (register : List ℕ) (r : Imported) (b g : List
 
   pub step_same : r.number ≡ 0 → Import f register r b g
   step_same z = is_import (number_long k f register (sym number_indexed ∙ z))
-
-  pub any_indexed : {n : ℕ} {es : List Event} → Ours n register es → (vs : List Event) × Ours n b vs
-  any_indexed {n} {es} s = go (eqb r.number 0) refl
-    where
-      go : (t : Bool) → eqb r.number 0 ≡ t → (vs : List Event) × Ours n b vs
-      go true e = goes_on s f r b g (step_same (eqb-true r.number 0 e))
-      go false e = (es, rw (indexed_refusal (eqb-false r.number 0 e)).1.0 s)
 
 pub import_unasked : (f : Handed) (register : List ℕ) (r : Imported) (b g : List ℕ) → Import f register r b g → r.number ≡ 36 → ⊥
 unfolding import_number stops form_stops call_stops file_stops judged_stops numbered_by bad

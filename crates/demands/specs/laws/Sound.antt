@@ -1,6 +1,6 @@
 -- What the provider's side needs of the verdicts of an accepted file, and that they have it whatever limits of weight judged its lines.
 -- Assumes nothing.
-use Rattle.std.specs.Prelude.{◌≡◌, Bool, true, false, ℕ, ◌≤◌, length}
+use Rattle.std.specs.Prelude.{◌≡◌, Bool, true, false, ◌&&◌, ℕ, ◌≤◌, length}
 use Rattle.std.proofs.Math.Path.{refl}
 use Rattle.std.proofs.Common.{sym, ◌∙◌, arith}
 use mathlib.Core.List.{List, [], ◌∷◌, ◌++◌, map, map-map}
@@ -15,12 +15,14 @@ use Rattle.theory.specs.laws.Walk.{each_passes}
 use Rattle.theory.specs.Every.{run}
 use Rattle.fields.specs.Field.{digit}
 use Rattle.theory.specs.Distinct.{distinct}
+use Rattle.theory.specs.Scan.{scan}
 use Rattle.theory.specs.Pick.{bad}
 use Rattle.theory.specs.Firsts.{firsts}
 use Rattle.theory.specs.laws.Scan.{some_key, length_scan, each_verdict, each_scan, distinct_scan}
 use Rattle.columns.specs.Columns.{text, pan_of}
+use Rattle.weights.specs.Weights.{weight_holds}
 use Rattle.vehicles.specs.Vehicle.{vehicle_holds}
-use Rattle.lines.specs.Rules.{rules_by, record_holds, L2}
+use Rattle.lines.specs.Rules.{rules_by, line_rules, record_holds, L2, L10}
 use Rattle.lines.specs.laws.Faultless.{passes_record}
 use Rattle.records.specs.Slot.{slot_of}
 use Rattle.records.specs.laws.Stamped.{each_storable}
@@ -32,16 +34,16 @@ use Rattle.header.specs.Header.{sender, list_sequence}
 use Rattle.header.specs.laws.Header.{header_sender, header_list}
 use Rattle.slots.specs.Slots.{slots_in, records}
 use Rattle.slots.specs.Search.{holds_pan, of_actor, held_by_another}
-use Rattle.verdicts.specs.Verdict.{taken}
+use Rattle.verdicts.specs.Verdict.{taken, own_rules, verdict_rules, verdict, verdicts_of, file_verdicts}
 use Rattle.upkeep.specs.laws.Makes.{each_makes}
 use Rattle.applying.specs.Fit.{Fit}
 use Rattle.imports.specs.Handed.{Handed}
-use Rattle.imports.specs.Import.{file_stamp}
+use Rattle.imports.specs.Import.{file_stamp, judged, following}
 use Rattle.imports.specs.laws.Numbers.{Formed, formed_received}
 use Rattle.pairing.specs.laws.Faithful.{Judges, lines_first}
 use Rattle.receipts.specs.Receipt.{texts_of}
 use Rattle.demands.specs.Weighed.{L10Under, rules_under, verdict_under, judged_under, following_by}
-use Rattle.demands.specs.laws.Reasons.{named, verdict_named, verdict_most}
+use Rattle.demands.specs.laws.Reasons.{named, verdict_with, with_named, with_most}
 
 -- vs, as the verdicts of a file in form, for which there is room
 pub record Sound (f : Handed) (register vs : List ℕ) : Type 0 where
@@ -86,37 +88,36 @@ lines_made h f =
     let w : ℕ = width_of h in
     map-map line (text w) (lines_of h) ∙ map_fixed (λ l. line (text w l)) (each_map (line_is w (width_has h 3 (omega arith))) (each_both (each_passes (framed w) (lines_of h) f) (each_line h)))
 
--- ---- a line's verdict, under any limits of weight
+-- ---- a line's verdict, with any test in the place of L10
 
-module _ (limit : List ℕ → Bool) (rows from : List ℕ) (R : List (List ℕ)) where
+module _ (h : List ℕ → Bool) (rows from : List ℕ) (R : List (List ℕ)) where
   -- L1 to L11
   abbrev own : List ℕ → ℕ
-  own l = first (rules_by (L10Under limit l) rows from l ++ (4 if held_by_another (pan_of l) from R) ∷ [])
+  own l = first (rules_by (h l) rows from l ++ (4 if held_by_another (pan_of l) from R) ∷ [])
 
   -- the line's own fault, and then its PAN among the lines taken before
-  judges : Judges own pan_of (verdict_under limit rows from R)
-  unfolding Judges holds_pan verdict_under rules_under rules_by numbered first
+  judges : Judges own pan_of (verdict_with h rows from R)
+  unfolding Judges holds_pan verdict_with rules_by numbered first
   judges ts l =
-      first_append (rules_by (L10Under limit l) rows from l ++ (4 if held_by_another (pan_of l) from R) ∷ []) ((1 if some (holds_pan (pan_of l)) ts) ∷ []) refl
+      first_append (rules_by (h l) rows from l ++ (4 if held_by_another (pan_of l) from R) ∷ []) ((1 if some (holds_pan (pan_of l)) ts) ∷ []) refl
       ∙ rw (← some_key pan_of (pan_of l) ts)
 
   -- what a line without fault of its own has
   module _ (l : List ℕ) (e : own l ≡ 0) where
-    parts : (first (rules_by (L10Under limit l) rows from l) ≡ 0) × (choose (held_by_another (pan_of l) from R) 4 0 ≡ 0)
+    parts : (first (rules_by (h l) rows from l) ≡ 0) × (choose (held_by_another (pan_of l) from R) 4 0 ≡ 0)
     unfolding rules_by numbered first
     parts =
-        otherwise_none (first (rules_by (L10Under limit l) rows from l)) _
-        (sym (first_append (rules_by (L10Under limit l) rows from l) ((4 if held_by_another (pan_of l) from R) ∷ []) refl) ∙ e)
+        otherwise_none (first (rules_by (h l) rows from l)) _
+        (sym (first_append (rules_by (h l) rows from l) ((4 if held_by_another (pan_of l) from R) ∷ []) refl) ∙ e)
 
     own_free : held_by_another (pan_of l) from R ≡ false
     own_free = unchosen _ 3 parts.1
 
-    own_record : run digit 6 from ≡ true → (L2 from l ≡ true) × (record_holds l ≡ true)
-    unfolding L10Under
-    own_record d = passes_record rows from l (L10Under limit l) (and_left (vehicle_holds l) (limit l)) d parts.0
+    own_record : (h l ≡ true → vehicle_holds l ≡ true) → run digit 6 from ≡ true → (L2 from l ≡ true) × (record_holds l ≡ true)
+    own_record k d = passes_record rows from l (h l) k d parts.0
 
   -- a taken line has no fault of its own, and no line taken before it has its PAN
-  module _ (ts : List (List ℕ)) (l : List ℕ) (v : verdict_under limit rows from R ts l ≡ 0) where
+  module _ (ts : List (List ℕ)) (l : List ℕ) (v : verdict_with h rows from R ts l ≡ 0) where
     apart_own : (own l ≡ 0) × (choose (mem (pan_of l) (map pan_of ts)) 1 0 ≡ 0)
     unfolding Judges
     apart_own = otherwise_none (own l) _ (sym (judges ts l) ∙ v)
@@ -126,37 +127,49 @@ module _ (limit : List ℕ → Bool) (rows from : List ℕ) (R : List (List ℕ)
 
 -- ---- the verdicts of the file
 
-module _ (limit : List ℕ → Bool) (f : Handed) (register : List ℕ) (c : Formed f register) where
+-- by a test that asks for the vehicle's fields
+module _ (h : List ℕ → Bool) (k : (l : List ℕ) → h l ≡ true → vehicle_holds l ≡ true) (f : Handed) (register : List ℕ) (c : Formed f register) where
   abbrev from : List ℕ
   from = sender f.hgv
 
   abbrev judge : List (List ℕ) → List ℕ → ℕ
-  judge = verdict_under limit f.rows from (records register)
+  judge = verdict_with h f.rows from (records register)
 
   abbrev vs : List ℕ
-  vs = judged_under limit f register
+  vs = scan judge [] (lines_of f.hgv)
 
   taken_records : Each (λ l. (L2 from l ≡ true) × (record_holds l ≡ true)) (taken vs f.hgv)
-  unfolding taken judged_under
+  unfolding taken
   taken_records =
       each_scan judge
-      (λ ts l v. own_record limit f.rows from (records register) l (apart_own limit f.rows from (records register) ts l v).0 (header_sender f.hgv c.headed))
+      (λ ts l v. own_record h f.rows from (records register) l (apart_own h f.rows from (records register) ts l v).0 (k l) (header_sender f.hgv c.headed))
       [] (lines_of f.hgv)
 
-  pub sound : length (following_by vs f register) ≤ slots_in register → Sound f register vs
-  unfolding taken judged_under of_actor L2 distinct
-  sound r =
+  pub sound_with : length (following_by vs f register) ≤ slots_in register → Sound f register vs
+  unfolding taken of_actor L2 distinct
+  sound_with r =
       record {
         formed = c;
         for_each = length_scan judge [] (lines_of f.hgv) ∙ length_lines f.hgv;
         firsts_taken =
             rw (← lines_made f.hgv c.framed)
-            (lines_first judge line (own limit f.rows from (records register)) pan_of (judges limit f.rows from (records register)) (texts_of f.hgv));
-        named_each = each_verdict judge (λ ts l. verdict_named limit f.rows from (records register) ts l) [] (lines_of f.hgv);
-        most_each = each_verdict judge (λ ts l. verdict_most limit f.rows from (records register) ts l) [] (lines_of f.hgv);
+            (lines_first judge line (own h f.rows from (records register)) pan_of (judges h f.rows from (records register)) (texts_of f.hgv));
+        named_each = each_verdict judge (λ ts l. with_named h f.rows from (records register) ts l) [] (lines_of f.hgv);
+        most_each = each_verdict judge (λ ts l. with_most h f.rows from (records register) ts l) [] (lines_of f.hgv);
         his = each_map (λ l k. k.0) taken_records;
         hold = each_map (λ l k. k.1) taken_records;
-        apart = distinct_scan judge pan_of (λ ts l v. taken_first limit f.rows from (records register) ts l v) [] (lines_of f.hgv) refl;
-        free = each_scan judge (λ ts l v. own_free limit f.rows from (records register) l (apart_own limit f.rows from (records register) ts l v).0) [] (lines_of f.hgv);
+        apart = distinct_scan judge pan_of (λ ts l v. taken_first h f.rows from (records register) ts l v) [] (lines_of f.hgv) refl;
+        free = each_scan judge (λ ts l v. own_free h f.rows from (records register) l (apart_own h f.rows from (records register) ts l v).0) [] (lines_of f.hgv);
         room = r;
       }
+
+-- under any limits of weight
+pub sound : (limit : List ℕ → Bool) (f : Handed) (register : List ℕ) → Formed f register
+    → length (following_by (judged_under limit f register) f register) ≤ slots_in register → Sound f register (judged_under limit f register)
+unfolding judged_under verdict_under rules_under verdict_with L10Under
+sound limit f register = sound_with (λ l. vehicle_holds l && limit l) (λ l. and_left (vehicle_holds l) (limit l)) f register
+
+-- and as the import judges
+pub sound_today : (f : Handed) (register : List ℕ) → Formed f register → length (following f register) ≤ slots_in register → Sound f register (judged register f.rows f.hgv)
+unfolding following following_by judged file_verdicts verdicts_of verdict verdict_rules own_rules line_rules L10 rules_by verdict_with
+sound_today f register = sound_with (λ l. vehicle_holds l && weight_holds l) (λ l. and_left (vehicle_holds l) (weight_holds l)) f register

@@ -34,7 +34,7 @@ use Rattle.imports.specs.Import.{judged, file_stamp, following, import_number}
 use Rattle.importer.specs.Promises.{Import}
 use Rattle.imports.specs.laws.Numbers.{Formed, accepted_clear, formed_received}
 use Rattle.imports.specs.laws.Accepted.{lines_storable}
-use Rattle.imports.specs.laws.Follows.{fit}
+use Rattle.imports.proofs.Follows.{fit}
 use Rattle.lookups.specs.Lookup.{pan_number, pan_place, plate_number, plate_place}
 use Rattle.lookups.specs.Promises.{ByPan, ByPlate}
 use Rattle.lookups.specs.laws.Found.{pan_fits, pan_part, plate_fits, plate_part}
@@ -49,7 +49,7 @@ use Rattle.copies.specs.Copy.{copy_stops}
 use Rattle.updating.specs.Update.{sent_stamp, copy_following, receipt_stops, update_number, copy_written, copy_after, received_at, sent_holds}
 use Rattle.updating.specs.Promises.{Update}
 use Rattle.copies.specs.laws.Sound.{Sound, copy_sound}
-use Rattle.updating.specs.laws.Fits.{receipt_holds_lem, received_real, lines_storable as sent-storable, taken_fit}
+use Rattle.updating.specs.laws.Fits.{receipt_holds_lem, received_real, lines_storable as sent_storable, taken_fit}
 use Rattle.demands.specs.Verdicts.{Verdicts}
 use Rattle.demands.specs.laws.Answered.{update_is}
 use Rattle.demands.specs.laws.Imports.{number_0}
@@ -152,7 +152,7 @@ module _ (s : Sent) (copy : List ℕ) (u : Counted) (c : List ℕ) (o : Update s
   update_touched =
       rw follows_held
       (each_map (λ x k t. carries (sender s.hgv) (list_of s.hgc) (received_at s) (rw (list_held s.hgv s.hgc receipt) (header_list s.hgv sound.headed)) received x (k t))
-      (applying.each_stamped s.mode (sender s.hgv) (sent_stamp s) (slots_in copy) (records copy) ms fits (ordered copy sound.ordered).apart (sent-storable s.mode s.offset s.hgv s.hgc sound.headed held.0)))
+      (applying.each_stamped s.mode (sender s.hgv) (sent_stamp s) (slots_in copy) (records copy) ms fits (ordered copy sound.ordered).apart (sent_storable s.mode s.offset s.hgv s.hgc sound.headed held.0)))
 
   pub update_untouched : Each (λ x. mem (pan_of x) (map pan_of ms) ≡ false → mem x (records copy) ≡ true) (records c)
   unfolding copy_following

@@ -1,11 +1,12 @@
 -- What a sweep leaves, of any outcome that its contract admits: the register in order, the lookups from its time on, a provider's own
--- records, and his copy beside the register. Assumes nothing.
-use Rattle.std.specs.Prelude.{◌≡◌, refl, Bool, true, false, not, ◌&&◌, List, [], ℕ, zero, suc, ◌+◌, ◌-◌, ◌≤◌, ◌<◌, ltb, length}
+-- records; his copy beside the register stands in proofs/Sweeps. Assumes nothing.
+use Rattle.std.specs.Prelude.{◌≡◌, refl, Bool, true, false, not, ◌&&◌, List, [], ℕ, zero, suc, ◌+◌, ◌≤◌, ◌<◌, ltb, length}
 use Rattle.std.proofs.Math.Path.{sym}
 use Rattle.std.proofs.Common.{ap, ◌∙◌, arith, ltb-true}
 use Rattle.theory.specs.laws.Truth.{and_right}
 use Rattle.theory.specs.Same.{eqs}
 use Rattle.theory.specs.First.{first, choose}
+use Rattle.theory.specs.Keep.{sift}
 use Rattle.theory.specs.laws.Keep.{sift_apart, sift_inside, sift_swap}
 use Rattle.theory.specs.Pick.{good}
 use Rattle.theory.specs.Tally.{tally}
@@ -16,11 +17,10 @@ use Rattle.records.specs.Slot.{slot_of}
 use Rattle.header.specs.Header.{sender}
 use Rattle.hgv.specs.Layout.{lines_of}
 use Rattle.slots.specs.Slots.{slots_in, records, used_in}
-use Rattle.slots.specs.Search.{of_actor, count_of}
+use Rattle.slots.specs.Search.{of_actor}
 use Rattle.slots.specs.laws.Slots.{used_most}
 use Rattle.register.specs.Register.{in_order}
 use Rattle.register.specs.laws.Register.{ordered}
-use Rattle.upkeep.specs.Holds.{Holds}
 use Rattle.activity.specs.laws.Since.{active_since}
 use Rattle.lookups.specs.Lookup.{fits_plate, fitting_in, plate_rules, plate_number, plate_slot}
 use Rattle.lookups.specs.Promises.{ByPlate}
@@ -35,19 +35,22 @@ use Rattle.importer.specs.Promises.{Import}
 use Rattle.imports.specs.laws.Numbers.{Formed}
 use Rattle.imports.specs.laws.Thin.{length_taken}
 use Rattle.sweeping.specs.declared.Swept.{Swept}
-use Rattle.sweeping.specs.Sweep.{ended, going, staying, sweep_stops, sweep_number}
+use Rattle.sweeping.specs.Sweep.{ended, going, staying}
 use Rattle.sweeping.specs.Promises.{Sweep}
-use Rattle.sweeping.specs.laws.Sweep.{stays_active, goes_or_stays, staying_active, none_goes, sweep_number_lem, sweep_refused, sweep_ordered, sweep_counts, sweep_holds}
+use Rattle.sweeping.specs.laws.Sweep.{stays_active, goes_or_stays, staying_active, none_goes, sweep_refused, sweep_ordered, sweep_counts, sweep_holds}
 use Rattle.demands.specs.Own.{own}
 use Rattle.demands.specs.Verdicts.{Verdicts}
-use Rattle.demands.specs.laws.Own.{count_own}
 use Rattle.demands.specs.laws.Judging.{judged_is}
 use Rattle.demands.specs.laws.Imports.{judged_number, form_clear}
 
 -- keeping a provider's records and sweeping commute
+pub sift_staying : (who t : List ℕ) (R : List (List ℕ)) → sift (of_actor who) (staying t R) ≡ staying t (sift (of_actor who) R)
+unfolding staying
+sift_staying who t R = sift_swap (of_actor who) (λ r. not (ended t r)) R
+
 pub own_staying : (who t : List ℕ) (R : List (List ℕ)) → own who (staying t R) ≡ staying t (own who R)
-unfolding own staying
-own_staying who t R = sift_swap (of_actor who) (λ r. not (ended t r)) R
+unfolding own
+own_staying = sift_staying
 
 -- what is active at a time was not ended before
 stays_since : (s t r : List ℕ) → earlier t s ≡ false → active t r ≡ true → ended s r ≡ false
@@ -153,41 +156,3 @@ module _ (t register : List ℕ) (r : Swept) (b : List ℕ) (o : Sweep t registe
         used_most register,
         k.many,
       )
-
-  -- ---- a provider's copy, swept at the same time
-
-  module _ (h : in_order register ≡ true) (who : List ℕ) (n : ℕ) (copy : List ℕ) (m : Holds n (own who (records register)) copy) (u : Swept) (c : List ℕ) (d : Sweep t copy u c) where
-    -- is refused where ours is
-    same_number : u.number ≡ r.number
-    unfolding sweep_number sweep_stops
-    same_number =
-        let e : in_order copy ≡ in_order register = m.order ∙ sym h in
-        sweep_number_lem t copy u c d ∙ rw e (sym (sweep_number_lem t register r b o))
-
-    -- what it is to answer
-    abbrev his_part : Swept
-    his_part = record { number = r.number; removed = count_of who (records register) - count_of who (records b) }
-
-    done : r.number ≡ 0 → Holds n (own who (records b)) c × (u ≡ his_part)
-    done z =
-        let k = sweep_holds t register r b o z in
-        let y : u.number ≡ 0 = same_number ∙ z in
-        let e : own who (records b) ≡ staying t (records copy) = rw (k.held, m.held) (own_staying who t (records register)) in
-        let w : length (going t (records copy)) ≡ count_of who (records register) - count_of who (records b) =
-        omega (arith, goes_or_stays t (records copy), ap length m.held, ap length e, count_own who (records register), count_own who (records b)) in
-        (rw (e, ← m.many) (sweep_holds t copy u c d y), rw (← same_number, ← w, ← sweep_counts t copy u c d y))
-
-    kept : (r.number ≡ 0 → ⊥) → Holds n (own who (records b)) c × (u ≡ his_part)
-    kept k =
-        let x = sweep_refused t register r b o k in
-        let y = sweep_refused t copy u c d (λ z. k (sym same_number ∙ z)) in
-        let w : count_of who (records register) - count_of who (records register) ≡ 0 = omega arith in
-        (rw (x.1, y.1) m, y.0 ∙ rw (same_number, x.1, w))
-
-    -- holds again what we hold for him, and his sweep answered our number, and how many of his went
-    pub both_swept : Holds n (own who (records b)) c × (u ≡ his_part)
-    both_swept = go r.number refl
-      where
-        go : (k : ℕ) → r.number ≡ k → Holds n (own who (records b)) c × (u ≡ his_part)
-        go zero z = done z
-        go (suc k) e = kept (λ z. omega arith)

@@ -36,18 +36,18 @@ use Rattle.imports.specs.declared.Imported.{Imported}
 use Rattle.imports.specs.Handed.{Handed}
 use Rattle.imports.specs.Import.{judged, file_stamp, following, confirmed, judged_stops, import_number, timed}
 use Rattle.importer.specs.Promises.{Import}
-use Rattle.imports.specs.laws.Numbers.{Formed, number_judged, accepted_clear, accepted_passed}
+use Rattle.imports.specs.laws.Numbers.{Formed, number_judged, accepted_clear}
 use Rattle.imports.specs.laws.Accepted.{lines_his}
-use Rattle.imports.specs.laws.Follows.{fit}
-use Rattle.imports.specs.laws.Thin.{length_taken, never_both}
+use Rattle.imports.specs.laws.Thin.{length_taken}
+use Rattle.imports.proofs.Room.{accepted_passed, never_both}
+use Rattle.imports.proofs.Follows.{fit}
 use Rattle.provider.specs.declared.Counted.{Counted}
 use Rattle.updating.specs.Sent.{Sent}
 use Rattle.copies.specs.Copy.{copy_stops}
 use Rattle.updating.specs.Update.{receipt_stops, update_number}
 use Rattle.updating.specs.Promises.{Update}
-use Rattle.demands.specs.Own.{own}
 use Rattle.demands.specs.Verdicts.{Verdicts}
-use Rattle.demands.specs.laws.Own.{count_own, own_holdings, own_stays}
+use Rattle.demands.specs.laws.Own.{count_sift, sift_holdings, sift_stays}
 use Rattle.demands.specs.laws.Judging.{judged_is}
 use Rattle.demands.specs.laws.Imports.{number_is, number_0, judged_number, form_none, form_clear, refused_register}
 use Rattle.demands.specs.laws.Answered.{update_is}
@@ -117,22 +117,22 @@ module _ (f : Handed) (register : List ℕ) (e : import_number f register ≡ 0)
   c = accepted_clear f register e
 
   -- of the sender's, half at least: a full list that is not too thin replaces them, an incremental one takes none away
-  sender_half : count_of his (records register) ≤ 2 * length (own his (following f register))
+  sender_half : count_of his (records register) ≤ 2 * length (sift (of_actor his) (following f register))
   unfolding following holdings replaced_all is_full
   sender_half =
-      rw (own_holdings f.mode his (slot_of (file_stamp f)) (slots_in register) (records register) ls (fit f register e) (lines_his f register c))
+      rw (sift_holdings f.mode his (slot_of (file_stamp f)) (slots_in register) (records register) ls (fit f register e) (lines_his f register c))
       (go (is_full f.mode) refl)
     where
-      go : (t : Bool) → is_full f.mode ≡ t → count_of his (records register) ≤ 2 * length (cond t (others his (own his (records register)) ++ xs) (stored_all (own his (records register)) xs))
+      go : (t : Bool) → is_full f.mode ≡ t → count_of his (records register) ≤ 2 * length (cond t (others his (sift (of_actor his) (records register)) ++ xs) (stored_all (sift (of_actor his) (records register)) xs))
       go true m =
           omega (
             arith,
             thick_half f.mode his (records register) (tally good (judged register f.rows f.hgv)) (eqb-true f.mode full m) (accepted_passed f register e).thick,
-            length-append (others his (own his (records register))) xs,
+            length-append (others his (sift (of_actor his) (records register))) xs,
             length-map ls (slot_of (file_stamp f)),
             length_taken f register c,
           )
-      go false m = omega (arith, count_own his (records register), all_grows xs (own his (records register)))
+      go false m = omega (arith, count_sift his (records register), all_grows xs (sift (of_actor his) (records register)))
 
 module _ (f : Handed) (register : List ℕ) (r : Imported) (b g : List ℕ) (o : Import f register r b g) where
   accepted_half : r.number ≡ 0 → (who : List ℕ) → count_of who (records register) ≤ 2 * count_of who (records b)
@@ -142,9 +142,9 @@ module _ (f : Handed) (register : List ℕ) (r : Imported) (b g : List ℕ) (o :
       e = number_0 f register r b g o z
 
       go : (t : Bool) → eqs (sender f.hgv) who ≡ t → count_of who (records register) ≤ 2 * count_of who (records b)
-      go true s = rw (← eqs_true (sender f.hgv) who s, count_own (sender f.hgv) (records b), (exact.holds f register r b g o z).held) (sender_half f register e)
+      go true s = rw (← eqs_true (sender f.hgv) who s, count_sift (sender f.hgv) (records b), (exact.holds f register r b g o z).held) (sender_half f register e)
       go false d =
-          rw (count_own who (records b), own_stays who (sender f.hgv) (records b) (records register) d (exact.others_are f register r b g o z), ← count_own who (records register))
+          rw (count_sift who (records b), sift_stays who (sender f.hgv) (records b) (records register) d (exact.others_are f register r b g o z), ← count_sift who (records register))
           (omega arith)
 
   pub half_left : (who : List ℕ) → count_of who (records register) ≤ 2 * count_of who (records b)

@@ -18,13 +18,13 @@ use Rattle.sizes.specs.Sizes.{line_length, incremental, slot_end}
 use Rattle.sizes.specs.Modes.{is_full}
 use Rattle.texts.specs.Field.{listed}
 use Rattle.fields.specs.Field.{plain}
-use Rattle.numbers.specs.Number.{number, decimal, zeros}
+use Rattle.numbers.specs.Number.{decimal, zeros}
 use Rattle.numbers.specs.laws.Number.{decimal_digits, number_15, number_2}
 use Rattle.sequences.specs.Sequence.{sequence}
 use Rattle.columns.specs.Columns.{text}
 use Rattle.lines.specs.Rules.{line_fault}
 use Rattle.lines.specs.laws.Faultless.{faultless, faultless_record}
-use Rattle.lines.specs.laws.Coverage.{record_plain}
+use Rattle.lines.proofs.Coverage.{record_plain}
 use Rattle.hgv.specs.Layout.{length_holds}
 use Rattle.hgv.specs.laws.Built.{built_holds}
 use Rattle.header.specs.Header.{header_holds, previous_holds}

@@ -1,0 +1,2 @@
+pub mod Idle
+pub mod Sides
