@@ -2,52 +2,59 @@
 // together.
 ghost use Rattle.std.specs.Prelude.{◌+◌, ◌≤◌, length};
 
-use libc::STDOUT_FILENO;
 use vectors::SAMPLES;
 
 // No vector's answer.
 const NONE: u64 = 1000;
 
-fn tell_text(text: &mut [u8], kind: u8, v: usize) {
+fn tell_text(rt: &HostRuntime, text: &mut [u8], kind: u8, v: usize) {
     ranges::put_value(text, kind, v);
-    io::write_all(STDOUT_FILENO, text);
+    printing::write_all(rt, text);
 }
 
 // A byte as its number, digits and capitals as their text.
-fn tell_value(kind: u8, width: usize, v: usize)
+fn tell_value(rt: &HostRuntime, kind: u8, width: usize, v: usize)
     requires { width ≤ 4 }
 {
     if kind == b'?' {
-        io::print_decimal(STDOUT_FILENO, v as u64);
+        printing::print_decimal(rt, v as u64);
         return;
     }
     let mut text = [0u8; 4];
-    tell_text(&mut text[0..width], kind, v);
+    tell_text(rt, &mut text[0..width], kind, v);
 }
 
-fn tell_values(kind: u8, width: usize, first: usize, last: usize)
+fn tell_values(rt: &HostRuntime, kind: u8, width: usize, first: usize, last: usize)
     requires { width ≤ 4 }
 {
     if 0 < first {
-        io::write_all(STDOUT_FILENO, b", ");
+        printing::write_all(rt, b", ");
     }
-    tell_value(kind, width, first);
+    tell_value(rt, kind, width, first);
     if first < last {
-        io::write_all(STDOUT_FILENO, b"-");
-        tell_value(kind, width, last);
+        printing::write_all(rt, b"-");
+        tell_value(rt, kind, width, last);
     }
 }
 
 // Where the answer is another one at v, those from `first` on are told; the first of those that are still to tell.
-fn turn(kind: u8, width: usize, first: usize, v: usize, before: u64, answer: u64) -> usize
+fn turn(
+    rt: &HostRuntime,
+    kind: u8,
+    width: usize,
+    first: usize,
+    v: usize,
+    before: u64,
+    answer: u64,
+) -> usize
     requires { (width ≤ 4) × (1 ≤ v) }
 {
     if before == answer {
         return first;
     }
-    tell_values(kind, width, first, v - 1);
-    io::write_all(STDOUT_FILENO, b": ");
-    crate::tell::answer(before);
+    tell_values(rt, kind, width, first, v - 1);
+    printing::write_all(rt, b": ");
+    crate::tell::answer(rt, before);
     v
 }
 
@@ -70,7 +77,14 @@ fn of_value(
     )
 }
 
-fn each_value(line: &mut [u8], at: usize, width: usize, kind: u8, samples: &[u8; SAMPLES])
+fn each_value(
+    rt: &HostRuntime,
+    line: &mut [u8],
+    at: usize,
+    width: usize,
+    kind: u8,
+    samples: &[u8; SAMPLES],
+)
     requires { (width ≤ 4) × (at + width ≤ length line.old) }
 {
     let end = at + width;
@@ -80,19 +94,19 @@ fn each_value(line: &mut [u8], at: usize, width: usize, kind: u8, samples: &[u8;
     let mut v: usize = 1;
     while v < n {
         let next = of_value(line, at, end, kind, v, samples);
-        first = turn(kind, width, first, v, answer, next);
+        first = turn(rt, kind, width, first, v, answer, next);
         answer = next;
         v += 1;
     }
-    turn(kind, width, first, v, answer, NONE);
+    turn(rt, kind, width, first, v, answer, NONE);
 }
 
-pub fn of_run(line: &mut [u8], samples: &[u8; SAMPLES]) {
+pub fn of_run(rt: &HostRuntime, line: &mut [u8], samples: &[u8; SAMPLES]) {
     let at = ranges::plain(line);
     let width = ranges::width(&line[at..]);
     if width == 0 {
         return;
     }
     let kind = line[at];
-    each_value(line, at, width, kind, samples);
+    each_value(rt, line, at, width, kind, samples);
 }

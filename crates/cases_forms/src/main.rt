@@ -3,7 +3,8 @@
 // with its answer. A line that begins with # is a note, and `text` gives the text that a letter names. ~ stands for LF and ^
 // for CR. `each` answers the vector behind it for each value of a run of wild characters in it: # a digit, @ a capital, ? any
 // byte.
-use libc::{STDIN_FILENO, STDOUT_FILENO};
+#![tactic(auto)]
+
 use vectors::SAMPLES;
 
 mod copies;
@@ -15,7 +16,10 @@ mod line;
 mod seconds;
 mod tell;
 
-fn answer(line: &mut [u8], samples: &mut [u8; SAMPLES]) {
+// The most bytes of `stdin` that are read.
+const INPUT: usize = 65536;
+
+fn answer(rt: &HostRuntime, line: &mut [u8], samples: &mut [u8; SAMPLES]) {
     if texts::same(texts::field(line, 1, 1), b"#") {
         return;
     }
@@ -23,41 +27,44 @@ fn answer(line: &mut [u8], samples: &mut [u8; SAMPLES]) {
         vectors::keep(samples, texts::field(line, 10, 65536));
         return;
     }
-    io::write_all(STDOUT_FILENO, b" -> ");
+    printing::write_all(rt, b" -> ");
     if texts::same(texts::field(line, 1, 8), b"each    ") {
-        each::of_run(line, samples);
+        each::of_run(rt, line, samples);
         return;
     }
-    tell::answer(field::answer(
-        texts::field(line, 1, 8),
-        texts::field(line, 10, 65536),
-        samples,
-    ));
+    tell::answer(
+        rt,
+        field::answer(
+            texts::field(line, 1, 8),
+            texts::field(line, 10, 65536),
+            samples,
+        ),
+    );
     if texts::same(texts::field(line, 1, 8), b"seconds ") {
-        seconds::tell_behind(texts::field(line, 10, 65536));
+        seconds::tell_behind(rt, texts::field(line, 10, 65536));
     }
 }
 
 // A line is told as it was read, and its marks are turned before it is answered.
-fn case(line: &mut [u8], samples: &mut [u8; SAMPLES]) {
-    io::write_all(STDOUT_FILENO, line);
+fn case(rt: &HostRuntime, line: &mut [u8], samples: &mut [u8; SAMPLES]) {
+    printing::write_all(rt, line);
     vectors::mark(line);
-    answer(line, samples);
-    io::write_all(STDOUT_FILENO, b"\n");
+    answer(rt, line, samples);
+    printing::write_all(rt, b"\n");
 }
 
-fn each_case(text: &mut [u8]) {
+fn each_case(rt: &HostRuntime, text: &mut [u8]) {
     let mut samples = [0u8; SAMPLES];
     let mut i: usize = 0;
     while i < text.len() {
         let end = i + vectors::before(&text[i..], 10);
-        case(&mut text[i..end], &mut samples);
+        case(rt, &mut text[i..end], &mut samples);
         i = end + 1;
     }
 }
 
-fn main() {
-    let mut text = io::large_buffer();
-    let n = io::read_full(STDIN_FILENO, &mut text);
-    each_case(&mut text[..n]);
+fn main(rt: HostRuntime) {
+    let mut text = [0u8; INPUT];
+    let n = printing::read_full(&rt, &mut text);
+    each_case(&rt, &mut text[..n]);
 }

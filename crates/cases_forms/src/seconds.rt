@@ -1,6 +1,5 @@
 // The seconds of a time since 00010101000000: 0 and the seconds, or 22 and 0 where it is not real. `each` tells the number
 // alone.
-use libc::STDOUT_FILENO;
 
 pub fn number(f: &[u8]) -> u64 {
     match times::time_of(f) {
@@ -17,7 +16,7 @@ fn seconds(f: &[u8]) -> u64 {
 }
 
 // What stands behind the number.
-pub fn tell_behind(f: &[u8]) {
-    io::write_all(STDOUT_FILENO, b" ");
-    io::print_decimal(STDOUT_FILENO, seconds(f));
+pub fn tell_behind(rt: &HostRuntime, f: &[u8]) {
+    printing::write_all(rt, b" ");
+    printing::print_decimal(rt, seconds(f));
 }

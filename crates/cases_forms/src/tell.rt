@@ -1,5 +1,4 @@
 // An answer: yes, no or a number.
-use libc::STDOUT_FILENO;
 
 const NO: u64 = 100;
 
@@ -9,14 +8,14 @@ pub fn told(holds: bool) -> u64 {
     if holds { YES } else { NO }
 }
 
-pub fn answer(answer: u64) {
+pub fn answer(rt: &HostRuntime, answer: u64) {
     if answer == NO {
-        io::write_all(STDOUT_FILENO, b"no");
+        printing::write_all(rt, b"no");
         return;
     }
     if answer == YES {
-        io::write_all(STDOUT_FILENO, b"yes");
+        printing::write_all(rt, b"yes");
         return;
     }
-    io::print_decimal(STDOUT_FILENO, answer);
+    printing::print_decimal(rt, answer);
 }

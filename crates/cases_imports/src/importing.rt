@@ -9,7 +9,6 @@ use crate::blocks::{
     REGISTER, at_most, is_laid, lay_file, lay_slots, number_in, offset_in, sent_length,
 };
 use imports::Imported;
-use libc::STDOUT_FILENO;
 use sizes::ROW;
 use vectors::SAMPLES;
 
@@ -20,7 +19,7 @@ const UNWRITTEN: u8 = 238;
 const INDEX: usize = 16;
 
 // How an import is called: by an index or not, the index's length and the number in each of its places, and the offset.
-#[derive(Drop)]
+#[derive(Clone, Copy)]
 struct Call {
     indexed: bool,
     length: usize,
@@ -92,27 +91,38 @@ fn imported(
 }
 
 // The register, the HGC, and whether the buffer behind it is as it was.
-fn tell_blocks(register: &[u8], hgc: &[u8], length: usize)
+fn tell_blocks(rt: &HostRuntime, register: &[u8], hgc: &[u8], length: usize)
     requires { 1 ≤ length }
 {
-    io::write_all(STDOUT_FILENO, b"\n");
-    crate::tell::slots(register);
-    io::write_all(STDOUT_FILENO, texts::field(hgc, 1, length));
-    crate::tell::kept(is_kept(hgc, length));
+    printing::write_all(rt, b"\n");
+    crate::tell::slots(rt, register);
+    printing::write_all(rt, texts::field(hgc, 1, length));
+    crate::tell::kept(rt, is_kept(hgc, length));
 }
 
-fn tell_import(f: &[u8], samples: &[u8; SAMPLES], r: Imported, register: &[u8], hgc: &[u8]) {
-    crate::tell::counts(r.number, r.taken, r.rejected);
-    crate::tell::number(r.length);
+fn tell_import(
+    rt: &HostRuntime,
+    f: &[u8],
+    samples: &[u8; SAMPLES],
+    r: Imported,
+    register: &[u8],
+    hgc: &[u8],
+) {
+    crate::tell::counts(rt, r.number, r.taken, r.rejected);
+    crate::tell::number(rt, r.length);
     if r.length == 0 {
-        io::write_all(STDOUT_FILENO, b" ");
-        crate::tell::kept(is_laid(register, samples, texts::field(f, 20, 23)) & is_kept(hgc, 0));
+        printing::write_all(rt, b" ");
+        crate::tell::kept(
+            rt,
+            is_laid(register, samples, texts::field(f, 20, 23)) & is_kept(hgc, 0),
+        );
         return;
     }
-    tell_blocks(register, hgc, r.length as usize);
+    tell_blocks(rt, register, hgc, r.length as usize);
 }
 
 fn with_blocks(
+    rt: &HostRuntime,
     call: Call,
     f: &[u8],
     samples: &[u8; SAMPLES],
@@ -123,17 +133,25 @@ fn with_blocks(
 ) -> u64 {
     let r = imported(call, f, samples, register, hgv, hgc);
     if aloud {
-        tell_import(f, samples, r, register, hgc);
+        tell_import(rt, f, samples, r, register, hgc);
     }
     r.number
 }
 
-fn with_file(call: Call, f: &[u8], samples: &[u8; SAMPLES], hgv: &[u8], aloud: bool) -> u64 {
+fn with_file(
+    rt: &HostRuntime,
+    call: Call,
+    f: &[u8],
+    samples: &[u8; SAMPLES],
+    hgv: &[u8],
+    aloud: bool,
+) -> u64 {
     let mut register = [0u8; REGISTER];
     let mut hgc = [UNWRITTEN; 704];
     let end = lay_slots(&mut register, samples, texts::field(f, 20, 23));
     let room = at_most(number_in(texts::field(f, 31, 34)), 704);
     with_blocks(
+        rt,
         call,
         f,
         samples,
@@ -144,12 +162,12 @@ fn with_file(call: Call, f: &[u8], samples: &[u8; SAMPLES], hgv: &[u8], aloud: b
     )
 }
 
-fn import_as(call: Call, f: &[u8], samples: &[u8; SAMPLES], aloud: bool) -> u64 {
+fn import_as(rt: &HostRuntime, call: Call, f: &[u8], samples: &[u8; SAMPLES], aloud: bool) -> u64 {
     let mut hgv = [0u8; 704];
     let own = lay_file(&mut hgv, samples, texts::field(f, 25, 29));
     vectors::change(&mut hgv, texts::field(f, 41, 65536));
     let length = sent_length(texts::field(f, 36, 39), own);
-    with_file(call, f, samples, texts::field(&hgv, 1, length), aloud)
+    with_file(rt, call, f, samples, texts::field(&hgv, 1, length), aloud)
 }
 
 // Without an index.
@@ -162,12 +180,13 @@ fn plain(offset: i64) -> Call {
     }
 }
 
-pub fn of_import(f: &[u8], samples: &[u8; SAMPLES], aloud: bool) -> u64 {
-    import_as(plain(0), f, samples, aloud)
+pub fn of_import(rt: &HostRuntime, f: &[u8], samples: &[u8; SAMPLES], aloud: bool) -> u64 {
+    import_as(rt, plain(0), f, samples, aloud)
 }
 
-pub fn of_local(f: &[u8], samples: &[u8; SAMPLES], aloud: bool) -> u64 {
+pub fn of_local(rt: &HostRuntime, f: &[u8], samples: &[u8; SAMPLES], aloud: bool) -> u64 {
     import_as(
+        rt,
         plain(offset_in(f)),
         texts::field(f, 7, 65536),
         samples,
@@ -175,12 +194,12 @@ pub fn of_local(f: &[u8], samples: &[u8; SAMPLES], aloud: bool) -> u64 {
     )
 }
 
-pub fn of_indexed(f: &[u8], samples: &[u8; SAMPLES], aloud: bool) -> u64 {
+pub fn of_indexed(rt: &HostRuntime, f: &[u8], samples: &[u8; SAMPLES], aloud: bool) -> u64 {
     let call = Call {
         indexed: true,
         length: number_in(texts::field(f, 1, 4)),
         number: at_most(number_in(texts::field(f, 6, 10)), 65535) as u16,
         offset: offset_in(texts::field(f, 12, 16)),
     };
-    import_as(call, texts::field(f, 18, 65536), samples, aloud)
+    import_as(rt, call, texts::field(f, 18, 65536), samples, aloud)
 }

@@ -12,24 +12,24 @@ const LINES: usize = sizes::LINES_MOST + 1;
 const ROOM: usize = (sizes::SLOTS_MOST + 1) * SLOT;
 
 // So many zero bytes as a register.
-fn in_order(room: &[u8], n: usize, aloud: bool) -> u64 {
+fn in_order(rt: &HostRuntime, room: &[u8], n: usize, aloud: bool) -> u64 {
     if room.len() < n {
         return 0;
     }
     let answer = crate::tell::told(register::in_order(&room[0..n]));
     if aloud {
-        crate::tell::first(answer);
+        crate::tell::first(rt, answer);
     }
     answer
 }
 
-fn with_room(f: &[u8], room: &[u8; ROOM], aloud: bool) -> u64 {
-    in_order(room, number_in(f), aloud)
+fn with_room(rt: &HostRuntime, f: &[u8], room: &[u8; ROOM], aloud: bool) -> u64 {
+    in_order(rt, room, number_in(f), aloud)
 }
 
-pub fn of_slots(f: &[u8], aloud: bool) -> u64 {
+pub fn of_slots(rt: &HostRuntime, f: &[u8], aloud: bool) -> u64 {
     let room = [0u8; ROOM];
-    with_room(f, &room, aloud)
+    with_room(rt, f, &room, aloud)
 }
 
 // A file with a line for each letter.
@@ -45,6 +45,7 @@ pub fn lay_lines(hgv: &mut [u8], samples: &[u8; SAMPLES], letters: &[u8])
 
 // So many lines B, of which each is to be rejected.
 fn import_lines(
+    rt: &HostRuntime,
     f: &[u8],
     samples: &[u8; SAMPLES],
     hgv: &mut [u8],
@@ -67,25 +68,26 @@ fn import_lines(
         hgc,
     );
     if aloud {
-        crate::tell::counts(r.number, r.taken, r.rejected);
-        crate::tell::number(r.length);
+        crate::tell::counts(rt, r.number, r.taken, r.rejected);
+        crate::tell::number(rt, r.length);
     }
     r.number
 }
 
 // The largest HGC.
 fn with_blocks(
+    rt: &HostRuntime,
     f: &[u8],
     samples: &[u8; SAMPLES],
     hgv: &mut [u8; 1048896],
     hgc: &mut [u8; 1065134],
     aloud: bool,
 ) -> u64 {
-    import_lines(f, samples, hgv, hgc, aloud)
+    import_lines(rt, f, samples, hgv, hgc, aloud)
 }
 
-pub fn of_lines(f: &[u8], samples: &[u8; SAMPLES], aloud: bool) -> u64 {
+pub fn of_lines(rt: &HostRuntime, f: &[u8], samples: &[u8; SAMPLES], aloud: bool) -> u64 {
     let mut hgv = [0u8; 1048896];
     let mut hgc = [0u8; 1065134];
-    with_blocks(f, samples, &mut hgv, &mut hgc, aloud)
+    with_blocks(rt, f, samples, &mut hgv, &mut hgc, aloud)
 }

@@ -9,7 +9,6 @@ ghost use Rattle.sizes.specs.Sizes.{slot_length};
 
 use crate::blocks::{at_most, number_in, sent_length};
 use imports::Imported;
-use libc::STDOUT_FILENO;
 use sizes::{FOOTER, HEADER, HGC_HEADER, LINE, SLOT};
 use vectors::SAMPLES;
 
@@ -101,50 +100,57 @@ fn imported(f: &[u8], register: &mut [u8], hgv: &[u8], hgc: &mut [u8]) -> Import
 }
 
 // Of a used slot or an answer the digits of its PAN, its plate, and two positions from `from` on.
-fn tell_part(part: &[u8], from: usize)
+fn tell_part(rt: &HostRuntime, part: &[u8], from: usize)
     requires { (1 ≤ from) × (from ≤ slot_length) }
 {
     if texts::same(texts::field(part, 1, 1), b"1") {
-        io::write_all(STDOUT_FILENO, b" ");
-        io::write_all(STDOUT_FILENO, texts::field(part, 22, 29));
-        io::write_all(STDOUT_FILENO, b"/");
-        io::write_all(STDOUT_FILENO, texts::field(part, 33, 38));
-        io::write_all(STDOUT_FILENO, b"/");
-        io::write_all(STDOUT_FILENO, texts::field(part, from, from + 1));
+        printing::write_all(rt, b" ");
+        printing::write_all(rt, texts::field(part, 22, 29));
+        printing::write_all(rt, b"/");
+        printing::write_all(rt, texts::field(part, 33, 38));
+        printing::write_all(rt, b"/");
+        printing::write_all(rt, texts::field(part, from, from + 1));
     }
 }
 
-fn tell_parts(block: &[u8], width: usize, from: usize)
+fn tell_parts(rt: &HostRuntime, block: &[u8], width: usize, from: usize)
     requires { ((1 ≤ width) × (width ≤ slot_length)) × ((1 ≤ from) × (from ≤ slot_length)) }
 {
     let mut at: usize = 0;
     while at + width <= block.len() {
         let end = at + width;
-        tell_part(&block[at..end], from);
+        tell_part(rt, &block[at..end], from);
         at = end;
     }
 }
 
-fn tell(r: Imported, register: &[u8], hgc: &[u8]) {
-    crate::tell::counts(r.number, r.taken, r.rejected);
-    crate::tell::number(r.length);
+fn tell(rt: &HostRuntime, r: Imported, register: &[u8], hgc: &[u8]) {
+    crate::tell::counts(rt, r.number, r.taken, r.rejected);
+    crate::tell::number(rt, r.length);
     if r.number == 0 {
-        io::write_all(STDOUT_FILENO, b"\nslots");
-        tell_parts(register, SLOT, 144);
-        io::write_all(STDOUT_FILENO, b"\nanswers");
-        tell_parts(texts::field(hgc, HGC_HEADER + 1, 65536), ANSWER, 128);
+        printing::write_all(rt, b"\nslots");
+        tell_parts(rt, register, SLOT, 144);
+        printing::write_all(rt, b"\nanswers");
+        tell_parts(rt, texts::field(hgc, HGC_HEADER + 1, 65536), ANSWER, 128);
     }
 }
 
-fn with_blocks(f: &[u8], register: &mut [u8], hgv: &[u8], hgc: &mut [u8], aloud: bool) -> u64 {
+fn with_blocks(
+    rt: &HostRuntime,
+    f: &[u8],
+    register: &mut [u8],
+    hgv: &[u8],
+    hgc: &mut [u8],
+    aloud: bool,
+) -> u64 {
     let r = imported(f, register, hgv, hgc);
     if aloud {
-        tell(r, register, hgc);
+        tell(rt, r, register, hgc);
     }
     r.number
 }
 
-pub fn of_series(f: &[u8], samples: &[u8; SAMPLES], aloud: bool) -> u64 {
+pub fn of_series(rt: &HostRuntime, f: &[u8], samples: &[u8; SAMPLES], aloud: bool) -> u64 {
     let mut register = [0u8; 67200];
     let mut hgv = [0u8; 51392];
     let mut hgc = [0u8; 52174];
@@ -152,6 +158,7 @@ pub fn of_series(f: &[u8], samples: &[u8; SAMPLES], aloud: bool) -> u64 {
     let sent = lay_file(&mut hgv, samples, texts::field(f, 39, 58));
     let slots = at_most(number_in(texts::field(f, 14, 16)), MOST);
     with_blocks(
+        rt,
         f,
         &mut register[0..slots * SLOT],
         texts::field(&hgv, 1, sent),

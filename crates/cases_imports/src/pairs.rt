@@ -6,7 +6,6 @@ ghost use Rattle.std.specs.Prelude.{◌≤◌, length};
 use crate::blocks::{
     REGISTER, at_most, is_laid, lay_file, lay_hgc, lay_slots, number_in, offset_in, sent_length,
 };
-use libc::STDOUT_FILENO;
 use provider::Counted;
 use vectors::SAMPLES;
 
@@ -39,45 +38,46 @@ fn lay_back(to: &mut [u8], samples: &[u8; SAMPLES], pair: &[u8]) -> usize
     sent_length(texts::field(pair, 18, 21), own)
 }
 
-fn tell_verdict(v: u8) {
+fn tell_verdict(rt: &HostRuntime, v: u8) {
     if v == UNWRITTEN {
-        io::write_all(STDOUT_FILENO, b" kept");
+        printing::write_all(rt, b" kept");
         return;
     }
-    crate::tell::number(v as u64);
+    crate::tell::number(rt, v as u64);
 }
 
-fn tell_verdicts(block: &[u8]) {
-    io::write_all(STDOUT_FILENO, b", block");
+fn tell_verdicts(rt: &HostRuntime, block: &[u8]) {
+    printing::write_all(rt, b", block");
     let mut i: usize = 0;
     while i < block.len() {
-        tell_verdict(block[i]);
+        tell_verdict(rt, block[i]);
         i += 1;
     }
 }
 
-fn read_into(block: &mut [u8], hgv: &[u8], hgc: &[u8], aloud: bool) -> u64 {
+fn read_into(rt: &HostRuntime, block: &mut [u8], hgv: &[u8], hgc: &[u8], aloud: bool) -> u64 {
     let r = reading::read_back(hgv, hgc, block);
     if aloud {
-        crate::tell::counts(r.number, r.taken, r.rejected);
-        tell_verdicts(block);
+        crate::tell::counts(rt, r.number, r.taken, r.rejected);
+        tell_verdicts(rt, block);
     }
     r.number
 }
 
-fn read(f: &[u8], hgv: &[u8], hgc: &[u8], aloud: bool) -> u64 {
+fn read(rt: &HostRuntime, f: &[u8], hgv: &[u8], hgc: &[u8], aloud: bool) -> u64 {
     let mut block = [UNWRITTEN; 9];
     let n = at_most(number_in(texts::field(f, 1, 1)), 9);
-    read_into(&mut block[0..n], hgv, hgc, aloud)
+    read_into(rt, &mut block[0..n], hgv, hgc, aloud)
 }
 
-pub fn of_read(f: &[u8], samples: &[u8; SAMPLES], aloud: bool) -> u64 {
+pub fn of_read(rt: &HostRuntime, f: &[u8], samples: &[u8; SAMPLES], aloud: bool) -> u64 {
     let mut hgv = [0u8; 704];
     let mut hgc = [0u8; 704];
     let pair = texts::field(f, 3, 65536);
     let sent = lay_sent(&mut hgv, samples, pair);
     let back = lay_back(&mut hgc, samples, pair);
     read(
+        rt,
         f,
         texts::field(&hgv, 1, sent),
         texts::field(&hgc, 1, back),
@@ -86,18 +86,19 @@ pub fn of_read(f: &[u8], samples: &[u8; SAMPLES], aloud: bool) -> u64 {
 }
 
 // The numbers, and the copy after it; at a stop, whether it is as it was.
-fn tell_copy(r: Counted, f: &[u8], samples: &[u8; SAMPLES], copy: &[u8]) {
-    crate::tell::counts(r.number, r.taken, r.rejected);
+fn tell_copy(rt: &HostRuntime, r: Counted, f: &[u8], samples: &[u8; SAMPLES], copy: &[u8]) {
+    crate::tell::counts(rt, r.number, r.taken, r.rejected);
     if r.number == 0 {
-        io::write_all(STDOUT_FILENO, b"\n");
-        crate::tell::slots(copy);
+        printing::write_all(rt, b"\n");
+        crate::tell::slots(rt, copy);
         return;
     }
-    io::write_all(STDOUT_FILENO, b" ");
-    crate::tell::kept(is_laid(copy, samples, texts::field(f, 3, 6)));
+    printing::write_all(rt, b" ");
+    crate::tell::kept(rt, is_laid(copy, samples, texts::field(f, 3, 6)));
 }
 
 fn update_copy(
+    rt: &HostRuntime,
     offset: i64,
     f: &[u8],
     samples: &[u8; SAMPLES],
@@ -109,12 +110,13 @@ fn update_copy(
     let mode = number_in(texts::field(f, 1, 1)) as u64;
     let r = updating::update(mode, offset, copy, hgv, hgc);
     if aloud {
-        tell_copy(r, f, samples, copy);
+        tell_copy(rt, r, f, samples, copy);
     }
     r.number
 }
 
 fn update(
+    rt: &HostRuntime,
     offset: i64,
     f: &[u8],
     samples: &[u8; SAMPLES],
@@ -124,16 +126,17 @@ fn update(
 ) -> u64 {
     let mut copy = [0u8; REGISTER];
     let end = lay_slots(&mut copy, samples, texts::field(f, 3, 6));
-    update_copy(offset, f, samples, &mut copy[0..end], hgv, hgc, aloud)
+    update_copy(rt, offset, f, samples, &mut copy[0..end], hgv, hgc, aloud)
 }
 
-fn update_at(offset: i64, f: &[u8], samples: &[u8; SAMPLES], aloud: bool) -> u64 {
+fn update_at(rt: &HostRuntime, offset: i64, f: &[u8], samples: &[u8; SAMPLES], aloud: bool) -> u64 {
     let mut hgv = [0u8; 704];
     let mut hgc = [0u8; 704];
     let pair = texts::field(f, 8, 65536);
     let sent = lay_sent(&mut hgv, samples, pair);
     let back = lay_back(&mut hgc, samples, pair);
     update(
+        rt,
         offset,
         f,
         samples,
@@ -143,10 +146,10 @@ fn update_at(offset: i64, f: &[u8], samples: &[u8; SAMPLES], aloud: bool) -> u64
     )
 }
 
-pub fn of_update(f: &[u8], samples: &[u8; SAMPLES], aloud: bool) -> u64 {
-    update_at(0, f, samples, aloud)
+pub fn of_update(rt: &HostRuntime, f: &[u8], samples: &[u8; SAMPLES], aloud: bool) -> u64 {
+    update_at(rt, 0, f, samples, aloud)
 }
 
-pub fn of_utc(f: &[u8], samples: &[u8; SAMPLES], aloud: bool) -> u64 {
-    update_at(offset_in(f), texts::field(f, 7, 65536), samples, aloud)
+pub fn of_utc(rt: &HostRuntime, f: &[u8], samples: &[u8; SAMPLES], aloud: bool) -> u64 {
+    update_at(rt, offset_in(f), texts::field(f, 7, 65536), samples, aloud)
 }

@@ -5,7 +5,6 @@ ghost use Rattle.std.specs.Prelude.{◌*◌, ◌≤◌, length};
 ghost use Rattle.sizes.specs.Sizes.{slot_length};
 
 use crate::blocks::{REGISTER, lay_slots};
-use libc::STDOUT_FILENO;
 use sweeping::Swept;
 use vectors::SAMPLES;
 
@@ -27,42 +26,48 @@ fn is_kept(register: &[u8], samples: &[u8; SAMPLES], f: &[u8]) -> bool {
 }
 
 // Both numbers, and the register after it; at a refusal, whether it is as it was.
-fn tell_swept(r: Swept, f: &[u8], samples: &[u8; SAMPLES], register: &[u8]) {
-    crate::tell::first(r.number);
-    crate::tell::number(r.removed);
+fn tell_swept(rt: &HostRuntime, r: Swept, f: &[u8], samples: &[u8; SAMPLES], register: &[u8]) {
+    crate::tell::first(rt, r.number);
+    crate::tell::number(rt, r.removed);
     if r.number == 0 {
-        io::write_all(STDOUT_FILENO, b"\n");
-        crate::tell::slots(register);
+        printing::write_all(rt, b"\n");
+        crate::tell::slots(rt, register);
         return;
     }
-    io::write_all(STDOUT_FILENO, b" ");
-    crate::tell::kept(is_kept(register, samples, f));
+    printing::write_all(rt, b" ");
+    crate::tell::kept(rt, is_kept(register, samples, f));
 }
 
-fn sweep(f: &[u8], samples: &[u8; SAMPLES], register: &mut [u8], aloud: bool) -> u64 {
+fn sweep(
+    rt: &HostRuntime,
+    f: &[u8],
+    samples: &[u8; SAMPLES],
+    register: &mut [u8],
+    aloud: bool,
+) -> u64 {
     let r = sweeping::sweep(register, texts::field(f, 25, 65536));
     if aloud {
-        tell_swept(r, f, samples, register);
+        tell_swept(rt, r, f, samples, register);
     }
     r.number
 }
 
-pub fn of_sweep(f: &[u8], samples: &[u8; SAMPLES], aloud: bool) -> u64 {
+pub fn of_sweep(rt: &HostRuntime, f: &[u8], samples: &[u8; SAMPLES], aloud: bool) -> u64 {
     let mut register = [0u8; REGISTER];
     let end = lay_ended(&mut register, samples, f);
-    sweep(f, samples, &mut register[0..end], aloud)
+    sweep(rt, f, samples, &mut register[0..end], aloud)
 }
 
-fn gone(f: &[u8], register: &mut [u8], aloud: bool) -> u64 {
+fn gone(rt: &HostRuntime, f: &[u8], register: &mut [u8], aloud: bool) -> u64 {
     let r = sweeping::sweep(register, texts::field(f, 25, 65536));
     if aloud {
-        crate::tell::first(r.removed);
+        crate::tell::first(rt, r.removed);
     }
     r.removed
 }
 
-pub fn of_gone(f: &[u8], samples: &[u8; SAMPLES], aloud: bool) -> u64 {
+pub fn of_gone(rt: &HostRuntime, f: &[u8], samples: &[u8; SAMPLES], aloud: bool) -> u64 {
     let mut register = [0u8; REGISTER];
     let end = lay_ended(&mut register, samples, f);
-    gone(f, &mut register[0..end], aloud)
+    gone(rt, f, &mut register[0..end], aloud)
 }

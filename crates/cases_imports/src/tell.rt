@@ -1,5 +1,4 @@
 // What is written behind a vector.
-use libc::STDOUT_FILENO;
 use sizes::SLOT;
 
 const NO: u64 = 100;
@@ -11,59 +10,59 @@ pub fn told(holds: bool) -> u64 {
 }
 
 // Yes, no or a number.
-pub fn answer(answer: u64) {
+pub fn answer(rt: &HostRuntime, answer: u64) {
     if answer == NO {
-        io::write_all(STDOUT_FILENO, b"no");
+        printing::write_all(rt, b"no");
         return;
     }
     if answer == YES {
-        io::write_all(STDOUT_FILENO, b"yes");
+        printing::write_all(rt, b"yes");
         return;
     }
-    io::print_decimal(STDOUT_FILENO, answer);
+    printing::print_decimal(rt, answer);
 }
 
 // The first of a vector's answers.
-pub fn first(answer: u64) {
-    io::write_all(STDOUT_FILENO, b" -> ");
-    crate::tell::answer(answer);
+pub fn first(rt: &HostRuntime, answer: u64) {
+    printing::write_all(rt, b" -> ");
+    crate::tell::answer(rt, answer);
 }
 
-pub fn number(n: u64) {
-    io::write_all(STDOUT_FILENO, b" ");
-    io::print_decimal(STDOUT_FILENO, n);
+pub fn number(rt: &HostRuntime, n: u64) {
+    printing::write_all(rt, b" ");
+    printing::print_decimal(rt, n);
 }
 
-pub fn counts(number: u64, taken: u64, rejected: u64) {
-    crate::tell::first(number);
-    crate::tell::number(taken);
-    crate::tell::number(rejected);
+pub fn counts(rt: &HostRuntime, number: u64, taken: u64, rejected: u64) {
+    crate::tell::first(rt, number);
+    crate::tell::number(rt, taken);
+    crate::tell::number(rt, rejected);
 }
 
 // A slot that is used has two lines: its record, which ends with LF, and its stamp.
-fn slot(slot: &[u8]) {
+fn slot(rt: &HostRuntime, slot: &[u8]) {
     let free = [0u8; SLOT];
     if texts::same(slot, &free) {
-        io::write_all(STDOUT_FILENO, b"free\n");
+        printing::write_all(rt, b"free\n");
         return;
     }
-    io::write_all(STDOUT_FILENO, slot);
-    io::write_all(STDOUT_FILENO, b"\n");
+    printing::write_all(rt, slot);
+    printing::write_all(rt, b"\n");
 }
 
-pub fn slots(register: &[u8]) {
+pub fn slots(rt: &HostRuntime, register: &[u8]) {
     let n = register.len() / SLOT;
     let mut i: usize = 0;
     while i < n {
-        slot(texts::part(register, SLOT, i));
+        slot(rt, texts::part(register, SLOT, i));
         i += 1;
     }
 }
 
-pub fn kept(holds: bool) {
+pub fn kept(rt: &HostRuntime, holds: bool) {
     if holds {
-        io::write_all(STDOUT_FILENO, b"kept");
+        printing::write_all(rt, b"kept");
         return;
     }
-    io::write_all(STDOUT_FILENO, b"changed");
+    printing::write_all(rt, b"changed");
 }

@@ -1,4 +1,6 @@
 // The wild characters of a vector: where a run of them stands, how many values it takes, and each value written over it.
+#![tactic(auto)]
+
 ghost use Rattle.std.specs.Prelude.{◌≡◌, ◌+◌, ◌≤◌, length};
 ghost use Rattle.theory.specs.Every.{leading};
 ghost use Rattle.ranges.specs.Ranges.{wild, base, lowest};

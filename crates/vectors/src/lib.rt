@@ -1,5 +1,7 @@
 // The files of vectors: where a part of a line ends, marks in it, texts laid out by the letters that name them, and a place
 // changed.
+#![tactic(auto)]
+
 ghost use Rattle.std.specs.Prelude.{◌≡◌, ◌+◌, ◌-◌, ◌*◌, ◌≤◌, length, get_or};
 ghost use Rattle.writing.specs.Put.{put_field};
 ghost use Rattle.vectors.specs.Vectors.{text_most, samples_length, marked, fits, put_text, sample};
