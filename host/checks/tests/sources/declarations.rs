@@ -63,15 +63,17 @@ fn exported(source: &str, all: &mut Functions) {
     }
 }
 
-/// The crates whose functions Rust calls.
+/// The functions of the crates that Rust calls, the static libraries of crates.txt; no other crate exports one.
 fn exports() -> Functions {
     let mut all = Functions::new();
+    let lists = text(&root().join("crates.txt"));
+    let is_static = |name: &str| lists.lines().any(|line| line.starts_with(&format!("{name} staticlib:")));
     for entry in read_dir(root().join("crates")).expect("the crates") {
         let path = entry.expect("an entry").path();
+        let before = all.len();
+        files(&path.join("src"), ".rt").iter().for_each(|file| exported(&text(file), &mut all));
         let name = path.file_name().expect("a name").to_string_lossy().into_owned();
-        if name == "service" || name.starts_with("service_") {
-            files(&path.join("src"), ".rt").iter().for_each(|file| exported(&text(file), &mut all));
-        }
+        assert_eq!(is_static(&name), all.len() > before, "{name}: a static library exports, and nothing else does");
     }
     all
 }

@@ -142,12 +142,13 @@ fn stated(page: &str) -> Vec<&str> {
     page.lines().filter_map(|line| line.trim().strip_prefix("abbrev pub ")?.strip_suffix(" : Type 0")).collect()
 }
 
-/// Is this the head of a theorem of that type, under its name?
+/// Is this the head of a theorem of that type, under its name? The type is what stands behind the last arrow.
 fn proves(head: &str, statement: &str) -> bool {
-    let mut words = head.split_whitespace();
-    words.next() == Some("pub")
-        && words.next().is_some_and(|name| in_capitals(name) == statement)
-        && words.any(|word| word == statement)
+    let Some((name, kind)) = head.trim().strip_prefix("pub ").and_then(|head| head.split_once(" : ")) else {
+        return false;
+    };
+    let result = kind.rsplit("→ ").next().expect("a type");
+    in_capitals(name) == statement && result.split_whitespace().next() == Some(statement)
 }
 
 /// Where a page of the demands has a theorem's statement alone, as a type, the file of its name in proofs/ has the theorem.
@@ -169,10 +170,18 @@ fn each_statement_has_its_theorem() {
 /// What tells a theorem of a type from its neighbours.
 #[test]
 fn another_theorem_is_told_apart() {
-    assert!(proves("  pub copy_is : CopyIs ours who replay", "CopyIs"));
-    for head in
-        ["  copy_is : CopyIs ours", "pub copy_is : SameRecords ours", "pub same_records : CopyIs ours", "pub copy_is :"]
-    {
+    for head in ["  pub copy_is : CopyIs ours who replay", "pub copy_is : (o : Import f) → CopyIs o"] {
+        assert!(proves(head, "CopyIs"), "{head}");
+    }
+    let others = [
+        "  copy_is : CopyIs ours",
+        "pub copy_is : SameRecords ours",
+        "pub same_records : CopyIs ours",
+        "pub copy_is :",
+        "pub copy_is : CopyIs ours → SameRecords ours",
+        "pub copy_is : (h : CopyIs ours) → SameRecords ours",
+    ];
+    for head in others {
         assert!(!proves(head, "CopyIs"), "{head}");
     }
 }
