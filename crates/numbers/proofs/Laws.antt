@@ -1,12 +1,12 @@
 -- Laws of the definitions of specs/, in the form that the loops use. Assumes nothing.
 use mathlib.Core.Path.{◌≡◌, refl, sym, ap, ◌∙◌}
-use mathlib.Core.List.{List, ◌++◌, append-nil}
+use mathlib.Core.List.{List, ◌++◌}
 use Prim.Native.Nat.{ℕ, suc, ◌<◌, ◌≤◌, ◌+◌, ◌-◌, ◌*◌, ◌/◌, ◌%◌, ◌^◌}
 use native.Mathlib.Nat.{pow-suc, pow-le-pow_right}
 use native.Mathlib.Numerals.{add-one}
 use native.Mathlib.Omega.{arith}
 use lib.ListN.{length, take, drop, get_or, set, length-set, length-take, length-drop, drop_of_length-le}
-use lib.Seq.{drop-cons, drop-set-lt, drop-length, get_or-set_same, append_snoc}
+use lib.Seq.{drop-cons, drop-set-lt, get_or-set_same, append_snoc}
 use Rattle.theory.specs.Text.{byte}
 use Rattle.writing.specs.Put.{put_field}
 use Rattle.writing.specs.laws.Put.{put_lent}
@@ -51,10 +51,6 @@ pub record Writing (v n : ℕ) (to : List ℕ) (i m : ℕ) : Type 0 where
   pub within : i ≤ n
   pub size : length to ≡ n
   pub whole : decimal n v ≡ decimal i m ++ drop i to
-
-pub writing_start : (v : ℕ) (to : List ℕ) → Writing v (length to) to (length to) v
-writing_start v to =
-    record { within = omega arith; size = refl; whole = sym (rw (drop-length to) (append-nil (decimal (length to) v))) }
 
 -- one digit, at the place j
 digit_step : (to : List ℕ) (j m : ℕ) → j < length to → decimal (suc j) m ++ drop (suc j) to ≡ decimal j (m / 10) ++ drop j (set to j (byte "0" + m % 10))

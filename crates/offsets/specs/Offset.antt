@@ -1,9 +1,7 @@
 -- Local time and UTC: an offset is local minus UTC in minutes. o is an offset, t the text of a time. Assumes nothing.
-use Rattle.std.specs.Prelude.{ℕ, Bool, ◌&&◌, List, [], ltb, ℤ, pos, negsuc, neg_ℤ, ◌+ℤ◌, ◌*ℤ◌}
+use Rattle.std.specs.Prelude.{ℕ, Bool, ◌&&◌, List, [], ltb, ℤ, pos, negsuc, neg_ℤ, ◌+ℤ◌, ◌*ℤ◌, Option, Some, None}
 use Rattle.std.specs.Int.Signed.{le_z}
 use Rattle.calendar.specs.Calendar.{all_seconds}
-use Rattle.times.specs.declared.Time.{Time}
-use Rattle.times.specs.declared.Time.TheVariants.{Real, Unreal}
 use Rattle.times.specs.Time.{real_time}
 use Rattle.times.specs.Seconds.{time_where, time_of, is_real, time_at}
 
@@ -12,27 +10,27 @@ unfoldable pub offset_holds : ℤ → Bool
 offset_holds o = le_z (neg_ℤ (pos 720)) o && le_z o (pos 840)
 
 -- the time so many seconds after 00010101000000: there is none before it, and none behind 99991231235959
-unfoldable pub time_from : ℤ → Time
+unfoldable pub time_from : ℤ → Option ℕ
 time_from (pos n) = time_where (ltb n all_seconds) n
-time_from (negsuc n) = Unreal
+time_from (negsuc n) = None
 
 -- so many minutes later
-unfoldable pub later : ℤ → Time → Time
-later o (Real n) = time_from (pos n +ℤ o *ℤ pos 60)
-later o Unreal = Unreal
+unfoldable pub later : ℤ → Option ℕ → Option ℕ
+later o (Some n) = time_from (pos n +ℤ o *ℤ pos 60)
+later o None = None
 
 -- the local time of the UTC time t, and the UTC time of the local time t
-unfoldable pub local_time : ℤ → List ℕ → Time
+unfoldable pub local_time : ℤ → List ℕ → Option ℕ
 local_time o t = later o (time_of t)
 
-unfoldable pub utc_time : ℤ → List ℕ → Time
+unfoldable pub utc_time : ℤ → List ℕ → Option ℕ
 utc_time o t = later (neg_ℤ o) (time_of t)
 
 -- ---- as texts
 
-abbrev pub text_at : Time → List ℕ
-text_at (Real n) = time_at n
-text_at Unreal = []
+abbrev pub text_at : Option ℕ → List ℕ
+text_at (Some n) = time_at n
+text_at None = []
 
 unfoldable pub local : ℤ → List ℕ → List ℕ
 local o t = text_at (local_time o t)

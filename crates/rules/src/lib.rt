@@ -1,12 +1,17 @@
-// Rules in an order, each with a number: the answer is the number of the first that fits.
+//! The definition's numbers as types: why a line is rejected, and why a call is refused; and what a call requires.
 #![tactic(auto)]
 
-ghost use Rattle.rules.specs.Promises.{First};
+pub mod reason;
+pub mod refusal;
 
-// The number, where the rule fits, else what the later rules say. Rules are taken from the last to the first, so that
-// the first stands.
-pub fn first(fits: bool, number: u64, later: u64) -> u64
-    ensures { First fits number later result }
+ghost use Rattle.rules.specs.Promises.{Require};
+
+pub use reason::Reason;
+pub use refusal::Refusal;
+
+/// A condition of a call, or a rule of a line: with `?` behind each, the first that does not hold gives its refusal or reason.
+pub fn require<E: Copy>(holds: bool, refusal: E) -> Result<(), E>
+    ensures { Require holds refusal result }
 {
-    if fits { number } else { later }
+    if holds { Ok(()) } else { Err(refusal) }
 }

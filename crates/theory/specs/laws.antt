@@ -24,3 +24,4 @@ pub mod Tally
 pub mod Scan
 pub mod Among
 pub mod Apart
+pub mod Words

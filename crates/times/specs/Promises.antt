@@ -1,11 +1,10 @@
 -- What each public function of this crate promises. Assumes nothing.
-use Rattle.std.specs.Prelude.{◌≡◌, Bool, List, ℕ}
+use Rattle.std.specs.Prelude.{◌≡◌, Bool, List, ℕ, Option}
 use Rattle.times.specs.Time.{real_time, real_date}
-use Rattle.times.specs.declared.Time.{Time}
 use Rattle.times.specs.Seconds.{time_of, time_at}
 use Rattle.times.specs.Order.{earlier}
 
-abbrev pub TimeOf : List ℕ → Time → Type 0
+abbrev pub TimeOf : List ℕ → Option ℕ → Type 0
 TimeOf t r = r ≡ time_of t
 
 abbrev pub IsRealTime : List ℕ → Bool → Type 0

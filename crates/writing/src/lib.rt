@@ -1,22 +1,20 @@
-// One text written over another.
+//! One text written over another.
 #![tactic(auto)]
 
 ghost use Rattle.std.specs.Prelude.{◌≡◌, ◌+◌, ◌-◌, ◌≤◌, length};
 ghost use Rattle.writing.specs.Promises.{Copy, PutField};
 
-// The bytes of a text into another of its length.
+/// The bytes of a text into another of its length.
 pub fn copy(to: &mut [u8], from: &[u8])
     requires { length to.old ≡ length from.now }
     ensures { Copy to.old from.now to.new }
 {
-    let mut i: usize = 0;
-    while i < from.len() {
-        to[i] = from[i];
-        i += 1;
-    }
+    to.copy_from_slice(from);
 }
 
-// A field written into a text from a position on, counted from 1.
+/// A field written into a text from position `from` on, counted from 1.
+// Stays: a position is a number that counts from 1, as in the document; a type for it would be made and taken apart at every
+// call.
 pub fn put_field(text: &mut [u8], from: usize, f: &[u8])
     requires { (1 ≤ from) × (from - 1 + length f.now ≤ length text.old) }
     ensures { PutField text.old from f.now text.new }

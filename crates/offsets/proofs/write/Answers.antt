@@ -3,11 +3,11 @@ use Rattle.offsets.proofs.write.Goals as goal
 
 pub write_time-requires : goal.write_time-requires
 unfolding Written
-write_time-requires c = (c.requires.1, rw c.in-Real.is at c.requires.0)
+write_time-requires c = rw c.in-Some.is at c.requires
 
-pub returns-in-Real : goal.returns-in-Real
-returns-in-Real c = rw c.in-Real.is c.write_time.ensures
+pub returns-in-Some : goal.returns-in-Some
+returns-in-Some c = rw c.in-Some.is c.write_time.ensures
 
-pub returns-in-Unreal : goal.returns-in-Unreal
+pub returns-in_default : goal.returns-in_default
 unfolding Written
-returns-in-Unreal c = absurd (rw c.in-Unreal.is at c.requires.0)
+returns-in_default c = absurd (rw c.in_default.is at c.requires)

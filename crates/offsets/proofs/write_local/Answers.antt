@@ -5,7 +5,7 @@ use Rattle.offsets.proofs.write_local.Goals as goal
 
 pub write-requires : goal.write-requires
 write-requires c =
-    (rw (c.local_time.ensures, local_moved c.args.ahead _) (moved_written _ _ _ (rw (local_moved c.args.ahead _) at c.requires.1.1)), c.requires.0)
+    rw (c.local_time.ensures, local_moved c.args.offset.ahead _) (moved_written _ _ _ (rw (local_moved c.args.offset.ahead _) at c.requires))
 
 pub returns : goal.returns
 unfolding local

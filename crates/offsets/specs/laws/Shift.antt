@@ -1,6 +1,6 @@
 -- Shifting a time there and back: what a time in range gives, that UTC is found again, and that no offset moves nothing.
 -- Assumes nothing.
-use Rattle.std.specs.Prelude.{◌≡◌, Bool, ◌&&◌, List, ℤ, negsuc, neg_ℤ, ◌+ℤ◌, ◌*ℤ◌}
+use Rattle.std.specs.Prelude.{◌≡◌, Bool, ◌&&◌, List, ℤ, negsuc, neg_ℤ, ◌+ℤ◌, ◌*ℤ◌, Some}
 use Rattle.std.proofs.Math.Path.{refl, sym, ap}
 use Rattle.std.proofs.Common.{◌∙◌, arith}
 use Rattle.std.proofs.Math.Bool.{true, false, and-true}
@@ -13,7 +13,6 @@ use Rattle.std.specs.Int.Signed.{le_z}
 use borrow.Author.Tests.{leb-true, ltb-true, ltb-false, lt-ltb, le-leb}
 use Rattle.theory.specs.laws.Truth.{and_left, and_right, and_both, and_none}
 use Rattle.calendar.specs.Calendar.{all_seconds}
-use Rattle.times.specs.declared.Time.TheVariants.{Real}
 use Rattle.times.specs.Time.{real_time}
 use Rattle.times.specs.Seconds.{seconds, time_where, time_of, is_real, time_at}
 use Rattle.times.specs.laws.Back.{time_real, time_unreal, at_real, at_seconds, seconds_most, at_its_seconds}
@@ -97,10 +96,10 @@ pub record Moved (p m : ℕ) (t : List ℕ) : Type 0 where
   pub real : real_time t ≡ true
   pub least : m ≤ seconds t + p
   pub most : seconds t + p - m < all_seconds
-  pub time : moved_by p m (time_of t) ≡ Real (seconds t + p - m)
+  pub time : moved_by p m (time_of t) ≡ Some (seconds t + p - m)
 
 module _ (p m : ℕ) (t : List ℕ) where
-  moved_is : real_time t ≡ true → m ≤ seconds t + p → seconds t + p - m < all_seconds → moved_by p m (time_of t) ≡ Real (seconds t + p - m)
+  moved_is : real_time t ≡ true → m ≤ seconds t + p → seconds t + p - m < all_seconds → moved_by p m (time_of t) ≡ Some (seconds t + p - m)
   unfolding moved_by time_less time_where
   moved_is r l k = rw (time_real t r, le-leb m (seconds t + p) l, lt-ltb (seconds t + p - m) all_seconds k)
 
@@ -132,10 +131,10 @@ module _ (p m : ℕ) (t : List ℕ) (v : Moved p m t) where
   back_seconds : seconds (u p m t v) + m - p ≡ seconds t
   back_seconds = omega (arith, moved_seconds p m t v, v.least)
 
-  back_time : moved_by m p (time_of (u p m t v)) ≡ Real (seconds t)
+  back_time : moved_by m p (time_of (u p m t v)) ≡ Some (seconds t)
   back_time =
       moved_is m p (u p m t v) (moved_text p m t v) (omega (arith, moved_seconds p m t v, v.least)) (omega (arith, back_seconds, seconds_most t v.real))
-      ∙ ap Real back_seconds
+      ∙ ap Some back_seconds
 
   pub moved_back : text_at (moved_by m p (time_of (u p m t v))) ≡ t
   moved_back = ap text_at back_time ∙ at_its_seconds t v.real
@@ -249,15 +248,15 @@ unfolding local
 shown_is o t t' i r r' e =
     let p : ℕ = ahead_of o * 60 in
     let n : seconds t + p - behind_utc * 60 ≡ seconds t' = omega arith in
-    let l : local_time o t ≡ Real (seconds t') =
+    let l : local_time o t ≡ Some (seconds t') =
     ap (λ (z : ℤ). local_time z t) (sym (offset_ahead o i)) ∙ local_moved (ahead_of o) t
-    ∙ moved_is p (behind_utc * 60) t r (omega arith) (omega (arith, n, seconds_most t' r')) ∙ ap Real n
+    ∙ moved_is p (behind_utc * 60) t r (omega arith) (omega (arith, n, seconds_most t' r')) ∙ ap Some n
     in (sym (received_in o t i) ∙ ap is_real l, ap text_at l ∙ at_its_seconds t' r')
 
 -- ---- no offset moves nothing
 
 module _ (t : List ℕ) where
-  later_zero : real_time t ≡ true → later (pos 0) (time_of t) ≡ Real (seconds t)
+  later_zero : real_time t ≡ true → later (pos 0) (time_of t) ≡ Some (seconds t)
   unfolding later time_from time_where
   later_zero h = rw (time_real t h, add-zero (seconds t), lt-ltb (seconds t) all_seconds (seconds_most t h))
 

@@ -1,19 +1,11 @@
-use mathlib.Core.Path.{sym, ◌∙◌}
-use native.Mathlib.Omega.{arith}
-use Rattle.times.proofs.Laws.{earlier_start, earlier_on, earlier_off, earlier_over, earlier_end}
+-- The order of the definition is that of the library's slices.
+use Rattle.std.proofs.Common.{refl, arith}
+use Rattle.std.specs.Ordering.{nat_cmp, is_lt}
+use Rattle.std.proofs.lemmas.Cmp.{same_from_slice_cmp_tested}
+use Rattle.std.proofs.lemmas.Bool.Decides.{nat_tests}
+use Rattle.times.specs.Order.{earlier}
 use Rattle.times.proofs.is_earlier.Goals as goal
 
-pub loop-i-init : goal.loop-i-init
-loop-i-init c = (omega arith, earlier_start _ _)
-
-pub returns-then-i-a : goal.returns-then-i-a
-returns-then-i-a c = sym (c.loop-i.invariant.1 ∙ earlier_over _ _ _ (omega arith) (omega arith))
-
-pub returns-then-a-i : goal.returns-then-a-i
-returns-then-a-i c = sym (c.loop-i.invariant.1 ∙ earlier_off _ _ _ (omega arith) (omega arith) c.if-a-i.true)
-
-pub loop-i-preserved : goal.loop-i-preserved
-loop-i-preserved c = (omega arith, c.loop-i.invariant.1 ∙ earlier_on _ _ _ (omega arith) (omega arith) c.if-a-i.false)
-
 pub returns : goal.returns
-returns c = sym (c.loop-i.invariant.1 ∙ earlier_end _ _ _ (omega arith))
+unfolding earlier
+returns c = same_from_slice_cmp_tested nat_cmp is_lt earlier refl (λ _ _. refl) (λ _ _. refl) (λ x y xs ys o e. grind (arith, nat_tests)) c.args.a.now c.args.b.now _ c.lt.ensures

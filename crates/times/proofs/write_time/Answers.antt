@@ -9,12 +9,12 @@ use Rattle.times.specs.laws.Back.{real_fits, text_digits}
 use Rattle.times.proofs.write_time.Goals as goal
 
 pub digits-requires : goal.digits-requires
-digits-requires c = rw c.moment_at-x.ensures (real_fits (moment_at c.args.seconds) (at_bounds _ c.requires.1))
+digits-requires c = rw c.moment_at-x.ensures (real_fits (moment_at c.args.seconds) (at_bounds _ c.requires))
 
 pub returns : goal.returns
 unfolding time_at
 returns c =
-    let b : Within (moment_at c.args.seconds) = at_bounds c.args.seconds c.requires.1 in
+    let b : Within (moment_at c.args.seconds) = at_bounds c.args.seconds c.requires in
     c.put_number.ensures
-    ∙ put_whole _ _ (length_decimal time_length c.digits.result ∙ sym c.requires.0)
+    ∙ put_whole _ _ (length_decimal time_length c.digits.result ∙ sym c.told-to)
     ∙ rw (c.digits.ensures, c.moment_at-x.ensures) (text_digits (moment_at c.args.seconds) b)

@@ -1,6 +1,6 @@
 -- The text of the time at a second is a real time, and has that second; so seconds and texts go there and back. Assumes
 -- nothing.
-use Rattle.std.specs.Prelude.{◌≡◌, Bool, true, false, List, [], ◌∷◌, ◌++◌, ℕ, suc, ◌+◌, ◌*◌, ◌/◌, ◌%◌, ◌≤◌, ◌<◌}
+use Rattle.std.specs.Prelude.{◌≡◌, Bool, true, false, List, [], ◌∷◌, ◌++◌, ℕ, suc, ◌+◌, ◌*◌, ◌/◌, ◌%◌, ◌≤◌, ◌<◌, Option, Some, None}
 use Rattle.std.proofs.Math.Path.{refl, ap}
 use Rattle.std.proofs.Common.{sym, ◌∙◌, append_assoc, append-nil, arith}
 use Rattle.theory.specs.Text.{byte}
@@ -18,8 +18,6 @@ use Rattle.calendar.specs.laws.Bounds.{days_most, bounds_real}
 use Rattle.calendar.specs.laws.Order.{stamp}
 use Rattle.calendar.specs.laws.Back.{Within, at_bounds, at_secs, secs_most}
 use Rattle.times.specs.Time.{year, month, day, hour, minute, second, real_time}
-use Rattle.times.specs.declared.Time.{Time}
-use Rattle.times.specs.declared.Time.TheVariants.{Real, Unreal}
 use Rattle.times.specs.Seconds.{seconds, time_where, time_of, is_real, text_of, time_at}
 use Rattle.times.specs.laws.Moment.{real_moment_lem}
 use Rattle.times.specs.laws.Order.{seconds_one}
@@ -134,16 +132,16 @@ module _ (t : List ℕ) (h : real_time t ≡ true) where
 
 -- ---- what the time check tells
 
-seconds_in : Time → ℕ
-seconds_in (Real n) = n
-seconds_in Unreal = 0
+seconds_in : Option ℕ → ℕ
+seconds_in (Some n) = n
+seconds_in None = 0
 
 module _ (t : List ℕ) where
-  pub time_real : real_time t ≡ true → time_of t ≡ Real (seconds t)
+  pub time_real : real_time t ≡ true → time_of t ≡ Some (seconds t)
   unfolding time_of time_where
   time_real h = rw h
 
-  pub time_unreal : real_time t ≡ false → time_of t ≡ Unreal
+  pub time_unreal : real_time t ≡ false → time_of t ≡ None
   unfolding time_of time_where
   time_unreal h = rw h
 
@@ -154,7 +152,7 @@ module _ (t : List ℕ) where
       go true e = ap is_real (time_real e)
       go false e = ap is_real (time_unreal e)
 
-  module _ (n : ℕ) (e : time_of t ≡ Real n) where
+  module _ (n : ℕ) (e : time_of t ≡ Some n) where
     told_real : real_time t ≡ true
     told_real = sym real_told ∙ ap is_real e
 

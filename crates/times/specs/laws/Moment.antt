@@ -5,6 +5,7 @@ use Rattle.theory.specs.laws.Truth.{and_left, and_right}
 use Rattle.theory.specs.Every.{all, run}
 use Rattle.sizes.specs.Sizes.{time_length}
 use Rattle.fields.specs.Field.{digit}
+use Rattle.calendar.specs.declared.Moment.{Moment}
 use Rattle.calendar.specs.Calendar.{real_moment, secs}
 use Rattle.calendar.specs.Bounds.{Bounds}
 use Rattle.calendar.specs.laws.Bounds.{bounds}
@@ -30,6 +31,10 @@ module _ (t : List ℕ) (real : real_time t ≡ true) where
 
   pub real_moment_lem : Bounds (year t) (month t) (day t) (hour t) (minute t) (second t)
   real_moment_lem = bounds (year t) (month t) (day t) (hour t) (minute t) (second t) real_numbers
+
+-- the moment whose digits stand in a text
+abbrev pub moment_of : List ℕ → Moment
+moment_of t = record { year = year t; month = month t; day = day t; hour = hour t; minute = minute t; second = second t }
 
 -- as the code asks it, of the six numbers that it read
 module _ (t : List ℕ) (y m d h i s : ℕ) (ey : y ≡ year t) (em : m ≡ month t) (ed : d ≡ day t) (eh : h ≡ hour t) (ei : i ≡ minute t) (es : s ≡ second t) where

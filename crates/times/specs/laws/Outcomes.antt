@@ -1,10 +1,9 @@
 -- Two outcomes of one call are one, for each public function of this crate. Assumes nothing.
-use Rattle.std.specs.Prelude.{◌≡◌, Bool, List, ℕ}
+use Rattle.std.specs.Prelude.{◌≡◌, Bool, List, ℕ, Option}
 use Rattle.theory.specs.laws.Outcome.{one_outcome}
-use Rattle.times.specs.declared.Time.{Time}
 use Rattle.times.specs.Promises.{TimeOf, IsRealTime, IsRealDate, IsEarlier, WriteTime}
 
-pub time_of_one : (t : List ℕ) (r s : Time) → TimeOf t r → TimeOf t s → r ≡ s
+pub time_of_one : (t : List ℕ) (r s : Option ℕ) → TimeOf t r → TimeOf t s → r ≡ s
 time_of_one t r s = one_outcome
 
 pub is_real_time_one : (t : List ℕ) (r s : Bool) → IsRealTime t r → IsRealTime t s → r ≡ s
