@@ -5,10 +5,9 @@ use mathlib.Core.List.{List}
 use Prim.Native.Nat.{ℕ, zero, suc, ◌+◌, ◌-◌, ◌≤◌, ◌<◌}
 use native.Mathlib.Omega.{arith}
 use native.Mathlib.Numerals.{add-one}
-use lib.Dec.{eqb, ltb}
-use lib.ListN.{length, get_or, set, length-set, take, replicate, get_or-replicate}
-use lib.Seq.{get_or-set_same, get_or-set_other}
-use borrow.Author.Tests.{eqb-true, eqb-false, ltb-true, ltb-false, not-false}
+use lib.Dec.{ltb}
+use lib.ListN.{length, get_or, take, replicate, get_or-replicate}
+use borrow.Author.Tests.{eqb-true, ltb-true, ltb-false}
 use Rattle.theory.specs.laws.Truth.{and_split}
 use Rattle.theory.specs.Same.{eqs}
 use Rattle.theory.specs.laws.Same.{eqs_true, eq_eqs}
@@ -35,16 +34,9 @@ use Rattle.finding.specs.laws.Sorted.{Follows, higher, same, Rises, Sorted, Led}
 
 -- ---- the tests, with the code's values as equations
 
-pub found_below : (a x n : ℕ) → a ≡ x → ltb a n ≡ true → x < n
-found_below a x n p e = rw (← p) (ltb-true a n e)
-
 -- x is the key k, and r says whether it is t
 pub found_same : (x k t : List ℕ) → x ≡ k → (r : Bool) → r ≡ eqs x t → r ≡ true → k ≡ t
 found_same x k t p r e h = sym p ∙ eqs_true x t (sym e ∙ h)
-
--- x and y are the keys k and j, and r says whether the first is less
-pub found_less : (x y k j : List ℕ) → x ≡ k → y ≡ j → (r : Bool) → r ≡ less x y → r ≡ true → less k j ≡ true
-found_less x y k j p q r e h = rw (← p, ← q) (sym e ∙ h)
 
 -- s is the key of the part i, and r says whether it is t
 pub key_found : (keys : Keys) (b : List ℕ) (i : ℕ) (s t : List ℕ) → s ≡ key_at keys b i → (r : Bool) → r ≡ eqs s t → r ≡ has_key (key_of keys) t (part_at keys.width i b)
@@ -53,36 +45,9 @@ key_found keys b i s t p r e = e ∙ rw p
 
 -- ---- each part comes behind the one ahead of it
 
--- k and j are the keys of the parts a and c, and r says whether the first is less
-pub next_higher : (keys : Keys) (b : List ℕ) (a c : ℕ) (k j : List ℕ) → k ≡ key_at keys b a → j ≡ key_at keys b c → (r : Bool) → r ≡ less k j → r ≡ true → Follows keys b a c
-next_higher keys b a c k j p q r e h = higher (found_less k j (key_at keys b a) (key_at keys b c) p q r e h)
-
--- r says whether they are the same; x and y are the places
-pub next_same : (keys : Keys) (b : List ℕ) (a c : ℕ) (k j : List ℕ) → k ≡ key_at keys b a → j ≡ key_at keys b c → (r : Bool) → r ≡ eqs k j → (x y : ℕ) → x ≡ a → y ≡ c
-    → r && ltb x y ≡ true → Follows keys b a c
-next_same keys b a c k j p q r e x y f g h =
-    let (s, l) = and_split r (ltb x y) h in
-    same (sym p ∙ eqs_true k j (sym e ∙ s) ∙ q) (rw (← f, ← g) (ltb-true x y l))
-
-module _ (keys : Keys) (b o : List ℕ) (n : ℕ) where
-  pub rises_start : Rises keys b o n 0
-  rises_start = record { within = λ j l. absurd (omega arith); next = λ j h l. absurd (omega arith) }
-
-  -- r says whether the part at i comes behind the one ahead of it
-  pub rises_on : (i : ℕ) → Rises keys b o n i → get_or o i 0 < n → (r : Bool) → (r ≡ true → 0 < i → Follows keys b (get_or o (i - 1) 0) (get_or o i 0)) → not r ≡ false
-      → Rises keys b o n (i + 1)
-  rises_on i u w r e q = record { within = λ j l. inside j (eqb j i) refl l; next = λ j h l. go j (eqb j i) refl h l }
-    where
-      inside : (j : ℕ) (s : Bool) → eqb j i ≡ s → j < i + 1 → get_or o j 0 < n
-      inside j true d l = rw (eqb-true j i d) w
-      inside j false d l = u.within j (omega (arith, eqb-false j i d))
-
-      go : (j : ℕ) (s : Bool) → eqb j i ≡ s → 0 < j → j < i + 1 → Follows keys b (get_or o (j - 1) 0) (get_or o j 0)
-      go j true d h l = let f : j ≡ i = eqb-true j i d in rw f (e (not-false r q) (rw (← f) h))
-      go j false d h l = u.next j h (omega (arith, eqb-false j i d))
-
-  pub rises_end : (i : ℕ) → Rises keys b o n i → n ≤ i → Rises keys b o n n
-  rises_end i u h = record { within = λ j l. u.within j (omega arith); next = λ j g l. u.next j g (omega arith) }
+-- k and j are the keys of the parts a and c, and r says whether they are the same
+pub next_same : (keys : Keys) (b : List ℕ) (a c : ℕ) (k j : List ℕ) → k ≡ key_at keys b a → j ≡ key_at keys b c → (r : Bool) → r ≡ eqs k j → r ≡ true → ltb a c ≡ true → Follows keys b a c
+next_same keys b a c k j p q r e s l = same (sym p ∙ eqs_true k j (sym e ∙ s) ∙ q) (ltb-true a c l)
 
 module _ (keys : Keys) (b : List ℕ) where
   follows_trans : (a c d : ℕ) → Follows keys b a c → Follows keys b c d → Follows keys b a d
@@ -107,21 +72,21 @@ module _ (keys : Keys) (b : List ℕ) where
 
 -- ---- a sorted order
 
--- every part counts
-pub order_sorted : (keys : Keys) (b vs o ks : List ℕ) (r : Bool) → (r ≡ true → Rises keys b o (length vs) (length vs)) → (d : Bool) → d ≡ below (ranked true vs o ks (length vs)) (length vs)
-    → r && d ≡ true → Sorted keys b o (length vs)
+-- every part counts, and the order has a place for each; r says whether it rises, and d whether it covers all parts
+pub order_sorted : (keys : Keys) (b vs o ks : List ℕ) (n : ℕ) → length vs ≡ n → length o ≡ n → (r : Bool) → (r ≡ true → Rises keys b o n (length o))
+    → (d : Bool) → d ≡ below (ranked true vs o ks (length o)) (length vs) → r && d ≡ true → Sorted keys b o n
 unfolding ranked counts
-order_sorted keys b vs o ks r f d c e =
+order_sorted keys b vs o ks n l m r f d c e =
     let (p, q) = and_split r d e in
-    record { rises = f p; ranks = ks; ranked = λ a l. stands a (sym c ∙ q) l }
+    record { rises = rw m at (f p); ranks = ks; ranked = stands (rw (m, l) at (sym c ∙ q)) }
   where
     not_twice : (z : Bool) → not (not z) ≡ true → z ≡ true
     not_twice true k = refl
     not_twice false k = k
 
-    stands : (a : ℕ) → below (ranked true vs o ks (length vs)) (length vs) ≡ true → a < length vs → (get_or ks a 0 < length vs) × (get_or o (get_or ks a 0) 0 ≡ a)
-    stands a g l =
-        let (x, y) = and_split _ _ (not_twice _ (below_at (ranked true vs o ks (length vs)) (length vs) g a l)) in
+    stands : below (ranked true vs o ks n) n ≡ true → (a : ℕ) → a < n → (get_or ks a 0 < n) × (get_or o (get_or ks a 0) 0 ≡ a)
+    stands g a k =
+        let (x, y) = and_split _ _ (not_twice _ (below_at (ranked true vs o ks n) n g a k)) in
         (ltb-true _ _ x, eqb-true _ _ y)
 
 eqs_no : (s t : List ℕ) → (s ≡ t → ⊥) → eqs s t ≡ false
@@ -206,10 +171,6 @@ module _ (keys : Keys) (b : List ℕ) (n : ℕ) (t : List ℕ) where
 -- ---- the first that has the key of a part
 
 module _ (keys : Keys) (n : ℕ) (b o : List ℕ) (s : Sorted keys b o n) where
-  -- x is the place at the rank i: it lies in the block
-  pub place_within : (j : ℕ) (found : List ℕ) → Led keys n b o j found → (i : ℕ) → i < n → (x : ℕ) → x ≡ get_or o i 0 → x < length found
-  place_within j found v i l x f = rw (f, v.size) (s.rises.within i l)
-
   -- t and u are the keys at a rank and ahead of it, and r says whether they are the same
   module _ (i : ℕ) (l : i < n) (found : List ℕ) (v : Led keys n b o i found) where
     pub lead_start : i ≡ 0 → get_or o i 0 ≡ first_for keys n b (get_or o i 0)
@@ -232,26 +193,6 @@ module _ (keys : Keys) (n : ℕ) (b o : List ℕ) (s : Sorted keys b o n) where
           go : Follows keys b (get_or o (i - 1) 0) (get_or o i 0) → less (key_at keys b (get_or o (i - 1) 0)) (key_at keys b (get_or o i 0)) ≡ true
           go (higher m) = m
           go (same k m) = absurd (true≢false (sym (eq_eqs u t (p ∙ k ∙ sym q)) ∙ sym e ∙ g))
-
-  pub led_start : (found : List ℕ) → length found ≡ n → Led keys n b o 0 found
-  led_start found z = record { size = z; told = λ j l. absurd (omega arith) }
-
-  -- x is the place at the rank i, and y the first that has its key
-  pub led_turn : (i : ℕ) (found : List ℕ) → Led keys n b o i found → i < n → (x : ℕ) → x ≡ get_or o i 0 → (y : ℕ) → y ≡ first_for keys n b (get_or o i 0)
-      → Led keys n b o (i + 1) (set found x y)
-  led_turn i found v l x f y g = record { size = length-set found x y ∙ v.size; told = λ j m. go j (eqb (get_or o j 0) x) refl m }
-    where
-      go : (j : ℕ) (r : Bool) → eqb (get_or o j 0) x ≡ r → j < i + 1 → get_or (set found x y) (get_or o j 0) 0 ≡ first_for keys n b (get_or o j 0)
-      go j true d m =
-          let k : get_or o j 0 ≡ x = eqb-true (get_or o j 0) x d in
-          rw k (get_or-set_same found x y 0 (place_within i found v i l x f) ∙ g ∙ rw f)
-      go j false d m =
-          let k = eqb-false (get_or o j 0) x d in
-          get_or-set_other found x (get_or o j 0) y 0 k ∙ v.told j (earlier (eqb j i) refl k)
-        where
-          earlier : (r : Bool) → eqb j i ≡ r → (get_or o j 0 ≡ x → ⊥) → j < i
-          earlier true z k = absurd (k (rw (f, eqb-true j i z)))
-          earlier false z k = omega (arith, eqb-false j i z)
 
   pub led_end : (i : ℕ) (found : List ℕ) → Led keys n b o i found → n ≤ i → found ≡ table_of (first_for keys n b) n
   led_end i found v h =
@@ -293,13 +234,6 @@ module _ (f : ℕ → ℕ) where
   filled_start block = record { within = omega arith; size = refl; stands = λ j l. absurd (omega arith) }
 
   module _ (n i : ℕ) (block : List ℕ) (v : Filled f n i block) where
-    pub filled_turn : i < length block → (x : ℕ) → x ≡ f i → Filled f n (i + 1) (set block i x)
-    filled_turn h x e = record { within = omega (arith, v.size); size = length-set block i x ∙ v.size; stands = λ j l. go j (eqb j i) refl l }
-      where
-        go : (j : ℕ) (r : Bool) → eqb j i ≡ r → j < i + 1 → get_or (set block i x) j 0 ≡ f j
-        go j true q l = rw (eqb-true j i q) (get_or-set_same block i x 0 h ∙ e)
-        go j false q l = get_or-set_other block i j x 0 (eqb-false j i q) ∙ v.stands j (omega (arith, eqb-false j i q))
-
     pub filled_end : length block ≤ i → block ≡ table_of f n
     filled_end h = is_table f n block v.size (λ j l. v.stands j (omega (arith, v.size)))
 

@@ -1,3 +1,4 @@
+pub mod Found
 pub mod Unmarked
 pub mod Sorted
 pub mod Outcomes

@@ -1,378 +1,309 @@
-// Keys of lines looked for among the parts of a block, and of each part the first that has its key. The places of the parts
-// are sorted by their keys once, and the order is tested; what is found in it by halving is tested too. Only where a test fails
-// are all parts looked at.
+//! Keys of lines looked for among the parts of a block, and of each part the first that has its key. The places of the parts
+//! are sorted by their keys once, and the order is tested; what is found in it by halving is tested too. Only where a test fails
+//! are all parts looked at.
 #![tactic(auto)]
 
-ghost use Rattle.std.specs.Prelude.{◌≡◌, true, ◌*◌, ◌-◌, ◌≤◌, ◌<◌, length, get_or};
+ghost use Rattle.std.specs.Prelude.{◌≡◌, true, IfSome, ◌-◌, ◌≤◌, ◌<◌, length, get_or};
 ghost use Rattle.sizes.specs.Sizes.{parts_most};
-ghost use Rattle.theory.specs.Place.{place};
-ghost use Rattle.keys.specs.Keys.{Forward, parts_of, key_of, key_at};
+ghost use Rattle.keys.specs.Keys.{parts_of, key_of, key_at};
 ghost use Rattle.keys.specs.Less.{less};
-ghost use Rattle.finding.specs.Places.{has_key, place_for, first_for};
+ghost use Rattle.finding.specs.Places.{place_for, first_for};
+ghost use Rattle.finding.specs.laws.Found.{Found};
 ghost use Rattle.finding.specs.laws.Sorted.{Follows, Rises, Sorted, Led};
 ghost use Rattle.finding.specs.Promises.{Places, PlacesBy, Firsts};
 
-use keys::Keys;
+use keys::{KeyedParts, Marked};
 use sizes::PARTS_MOST;
 
 // For fewer lines the sort takes longer than it saves.
 const FEW: usize = 32;
 
-fn wide(x: u16) -> usize
-    ensures { result ≡ x }
-{
-    x as usize
-}
-
 // Stands the place of a part at this rank.
-fn has_part(n: usize, order: &[u16], rank: usize) -> bool
-    requires { n ≤ length order.now }
-    ensures { result ≡ true → (rank < n) × (get_or order.now rank 0 < n) }
+fn has_part(parts: &KeyedParts, order: &[u16], rank: usize) -> bool
+    ensures { result ≡ true → (rank < length order.now) × (get_or order.now rank 0 < parts.now.count) }
 {
-    if n <= rank {
-        return false;
-    }
-    wide(order[rank]) < n
+    rank < order.len() && usize::from(order[rank]) < parts.count
 }
 
-fn key_at<'a>(b: &'a [u8], keys: Keys, n: usize, order: &[u16], rank: usize) -> &'a [u8]
-    requires { (n * keys.width ≤ length b.now) × Forward keys × (n ≤ length order.now) × (rank < n) × (get_or order.now rank 0 < n) }
-    ensures { result.now ≡ key_at keys b.now (get_or order.now rank 0) }
+fn key_at<'a>(parts: &KeyedParts<'a>, order: &[u16], rank: usize) -> &'a [u8]
+    requires { (rank < length order.now) × (get_or order.now rank 0 < parts.now.count) }
+    ensures { result.now ≡ key_at parts.now.keys parts.now.block.now (get_or order.now rank 0) }
 {
-    keys::key(b, keys, wide(order[rank]))
-}
-
-// Has the part at this rank the key t.
-fn is_here(b: &[u8], keys: Keys, n: usize, order: &[u16], rank: usize, t: &[u8]) -> bool
-    requires { (n * keys.width ≤ length b.now) × Forward keys × (n ≤ length order.now) }
-    ensures { result ≡ true → (rank < n) × (get_or order.now rank 0 < n) × (key_at keys b.now (get_or order.now rank 0) ≡ t.now) }
-{
-    if !has_part(n, order, rank) {
-        return false;
-    }
-    texts::same(key_at(b, keys, n, order, rank), t)
-}
-
-// Is the key ahead of this rank less than t, or is there none.
-fn is_ahead(b: &[u8], keys: Keys, n: usize, order: &[u16], rank: usize, t: &[u8]) -> bool
-    requires { (n * keys.width ≤ length b.now) × Forward keys × (n ≤ length order.now) }
-    ensures { result ≡ true → 0 < rank → less (key_at keys b.now (get_or order.now (rank - 1) 0)) t.now ≡ true }
-{
-    if rank == 0 {
-        return true;
-    }
-    let ahead = rank - 1;
-    if !has_part(n, order, ahead) {
-        return false;
-    }
-    keys::is_less(key_at(b, keys, n, order, ahead), t)
-}
-
-// Is t less than the key at this rank, or is there none.
-fn is_behind(b: &[u8], keys: Keys, n: usize, order: &[u16], rank: usize, t: &[u8]) -> bool
-    requires { (n * keys.width ≤ length b.now) × Forward keys × (n ≤ length order.now) }
-    ensures { result ≡ true → rank < n → less t.now (key_at keys b.now (get_or order.now rank 0)) ≡ true }
-{
-    if n <= rank {
-        return true;
-    }
-    if !has_part(n, order, rank) {
-        return false;
-    }
-    keys::is_less(t, key_at(b, keys, n, order, rank))
+    parts.key(usize::from(order[rank]))
 }
 
 // Comes the part at this rank behind the one ahead of it: its key is higher, or the same, and its place is the later one.
-fn is_next(b: &[u8], keys: Keys, n: usize, order: &[u16], rank: usize) -> bool
-    requires { (n * keys.width ≤ length b.now) × Forward keys × (n ≤ length order.now) × (rank < n) × (get_or order.now rank 0 < n) }
-    ensures { result ≡ true → 0 < rank → Follows keys b.now (get_or order.now (rank - 1) 0) (get_or order.now rank 0) }
+fn is_next(parts: &KeyedParts, order: &[u16], rank: usize) -> bool
+    requires { (rank < length order.now) × (get_or order.now rank 0 < parts.now.count) }
+    ensures { result ≡ true → 0 < rank → Follows parts.now.keys parts.now.block.now (get_or order.now (rank - 1) 0) (get_or order.now rank 0) }
 {
     if rank == 0 {
         return true;
     }
     let ahead = rank - 1;
-    if !has_part(n, order, ahead) {
+    if !has_part(parts, order, ahead) {
         return false;
     }
-    let there = key_at(b, keys, n, order, ahead);
-    let here = key_at(b, keys, n, order, rank);
-    if keys::is_less(there, here) {
-        return true;
-    }
-    texts::same(there, here) & (wide(order[ahead]) < wide(order[rank]))
+    let there = key_at(parts, order, ahead);
+    let here = key_at(parts, order, rank);
+    keys::is_less(there, here) || texts::same(there, here) && order[ahead] < order[rank]
 }
 
 // Comes each part in the order behind the one ahead of it.
-fn rises(b: &[u8], keys: Keys, n: usize, order: &[u16]) -> bool
-    requires { (n * keys.width ≤ length b.now) × Forward keys × (n ≤ length order.now) }
-    ensures { result ≡ true → Rises keys b.now order.now n n }
+fn rises(parts: &KeyedParts, order: &[u16]) -> bool
+    ensures { result ≡ true → Rises parts.now.keys parts.now.block.now order.now parts.now.count (length order.now) }
 {
-    let mut i: usize = 0;
-    while i < n {
-        if !has_part(n, order, i) {
+    for i in 0..order.len() {
+        if !has_part(parts, order, i) || !is_next(parts, order, i) {
             return false;
         }
-        if !is_next(b, keys, n, order, i) {
-            return false;
-        }
-        i += 1;
     }
     true
 }
 
 // Sorts the places of all parts by their keys, those of one key by their places. Are they sorted.
-fn sort(b: &[u8], keys: Keys, marks: &[u8], order: &mut [u16]) -> bool
-    requires { (length marks.now * keys.width ≤ length b.now) × Forward keys × (length marks.now ≤ parts_most) × (length marks.now ≤ length order.old) }
-    ensures { result ≡ true → Sorted keys b.now order.new (length marks.now) }
+fn sort(parts: &KeyedParts, order: &mut [u16]) -> bool
+    requires few { parts.now.count ≤ parts_most }
+    requires room { length order.old ≡ parts.now.count }
+    ensures { result ≡ true → Sorted parts.now.keys parts.now.block.now order.new parts.now.count }
 {
-    let mut ranks = [0u16; PARTS_MOST];
-    sorting::sort(b, keys, marks, true, order, &mut ranks);
-    let n = marks.len();
-    rises(b, keys, n, order) & ordering::covers(marks, true, order, &ranks, n)
-}
-
-// The same for n parts, where so many keys are looked for that it pays.
-fn arrange(b: &[u8], keys: Keys, n: usize, sought: usize, order: &mut [u16]) -> bool
-    requires { (n * keys.width ≤ length b.now) × Forward keys × (n ≤ parts_most) × (n ≤ length order.old) }
-    ensures { result ≡ true → Sorted keys b.now order.new n }
-{
-    if sought < FEW {
-        return false;
-    }
     let marks = [0u8; PARTS_MOST];
-    sort(b, keys, &marks[..n], order)
+    let marked = Marked {
+        parts: *parts,
+        marks: &marks[..parts.count],
+    };
+    let mut ranks = [0u16; PARTS_MOST];
+    sorting::sort(&marked, true, order, &mut ranks);
+    rises(parts, order) && ordering::covers(marked.marks, true, order, &ranks)
 }
 
-// The rank at which the key t stands or would stand, if the order is sorted. Nothing is promised of it but its size: who
-// uses it tests it.
-fn seek(b: &[u8], keys: Keys, n: usize, order: &[u16], t: &[u8]) -> usize
-    requires { (n * keys.width ≤ length b.now) × Forward keys × (n ≤ length order.now) }
-    ensures { result ≤ n }
+/// Parts, and their places sorted by their keys.
+#[derive(Clone, Copy)]
+struct Shelf<'a, 'o> {
+    parts: KeyedParts<'a>,
+    order: &'o [u16],
+    ghost each: { length order.now ≡ parts.count },
+    ghost ordered: { ∥ Sorted parts.keys parts.block.now order.now parts.count ∥₁ },
+}
+
+// The parts sorted, where so many keys are looked for that it pays. None where it does not, or where they are not sorted.
+fn arrange<'a, 'o>(
+    parts: &KeyedParts<'a>,
+    sought: usize,
+    order: &'o mut [u16],
+) -> Option<Shelf<'a, 'o>>
+    requires few { parts.now.count ≤ parts_most }
+    requires room { length order.old ≡ parts.now.count }
+    ensures { IfSome result (λ shelf. shelf.parts ≡ parts.now) }
 {
-    let mut low: usize = 0;
-    let mut high = n;
-    while low < high {
-        let middle = low + (high - low) / 2;
-        if is_ahead(b, keys, n, order, middle + 1, t) {
-            low = middle + 1;
-        } else {
-            high = middle;
+    if FEW <= sought && sort(parts, order) {
+        Some(Shelf {
+            parts: *parts,
+            order,
+        })
+    } else {
+        None
+    }
+}
+
+impl<'a> Shelf<'a, '_> {
+    // The key at this rank.
+    fn key_at(&self, rank: usize) -> &'a [u8]
+        requires { rank < self.now.parts.count }
+        ensures { result.now ≡ key_at self.now.parts.keys self.now.parts.block.now (get_or self.now.order.now rank 0) }
+    {
+        key_at(&self.parts, self.order, rank)
+    }
+
+    // Has the part at this rank the key t.
+    fn is_here(&self, rank: usize, t: &[u8]) -> bool
+        ensures { result ≡ true → (rank < self.now.parts.count) × (key_at self.now.parts.keys self.now.parts.block.now (get_or self.now.order.now rank 0) ≡ t.now) }
+    {
+        rank < self.order.len() && texts::same(self.key_at(rank), t)
+    }
+
+    // Is the key ahead of this rank less than t, or is there none.
+    fn is_ahead(&self, rank: usize, t: &[u8]) -> bool
+        requires { rank ≤ self.now.parts.count }
+        ensures { result ≡ true → 0 < rank → less (key_at self.now.parts.keys self.now.parts.block.now (get_or self.now.order.now (rank - 1) 0)) t.now ≡ true }
+    {
+        rank == 0 || keys::is_less(self.key_at(rank - 1), t)
+    }
+
+    // Is t less than the key at this rank, or is there none.
+    fn is_behind(&self, rank: usize, t: &[u8]) -> bool
+        ensures { result ≡ true → rank < self.now.parts.count → less t.now (key_at self.now.parts.keys self.now.parts.block.now (get_or self.now.order.now rank 0)) ≡ true }
+    {
+        self.order.len() <= rank || keys::is_less(t, self.key_at(rank))
+    }
+
+    // The rank at which the key t stands or would stand. Nothing is promised of it but its size: who uses it tests it.
+    fn seek(&self, t: &[u8]) -> usize
+        ensures { result ≤ self.now.parts.count }
+    {
+        self.order.partition_point(|&place| {
+            let place = usize::from(place);
+            place < self.parts.count && keys::is_less(self.parts.key(place), t)
+        })
+    }
+
+    // Of the part at this rank: the place of the first that has its key. Of the parts ahead of it `found` tells it already.
+    fn first_at(&self, rank: usize, found: &[u16]) -> u16
+        requires within { rank < self.now.parts.count }
+        requires led { Led self.now.parts.keys self.now.parts.count self.now.parts.block.now self.now.order.now rank found.now }
+        ensures { result ≡ first_for self.now.parts.keys self.now.parts.count self.now.parts.block.now (get_or self.now.order.now rank 0) }
+    {
+        if rank == 0 {
+            return self.order[rank];
+        }
+        let ahead = rank - 1;
+        let there = self.key_at(ahead);
+        if texts::same(there, self.key_at(rank)) {
+            return found[usize::from(self.order[ahead])];
+        }
+        self.order[rank]
+    }
+
+    // What `firsts` promises: from the lowest key to the highest.
+    fn lead(&self, found: &mut [u16])
+        requires { length found.old ≡ self.now.parts.count }
+        ensures { Firsts self.now.parts.block.now self.now.parts.keys found.old found.new }
+    {
+        for rank in 0..self.parts.count {
+            let first = self.first_at(rank, found);
+            found[usize::from(self.order[rank])] = first;
         }
     }
-    low
 }
 
-// The place of the first of n parts that has the key t, or n. All are looked at in turn.
-fn search_for(b: &[u8], keys: Keys, n: usize, t: &[u8]) -> usize
-    requires { (n * keys.width ≤ length b.now) × Forward keys }
-    ensures { (result ≡ place (has_key (key_of keys) t.now) (parts_of keys n b.now)) × (result ≤ n) }
-{
-    let mut i: usize = 0;
-    while i < n {
-        if texts::same(keys::key(b, keys, i), t) {
-            return i;
+/// Parts among which a key is looked for.
+trait Search {
+    ghost use Rattle.keys.specs.declared.keyed.KeyedParts.{KeyedParts};
+
+    ghost parts: { Self → KeyedParts };
+
+    /// The parts.
+    fn parts(&self) -> &KeyedParts
+        ensures { result.now ≡ parts self.now };
+
+    /// The place of the first part that has the key t.
+    // Stays: their number where there is none, as the table of places that is filled has it.
+    fn find(&self, t: &[u8]) -> usize
+        ensures { Found (parts self.now) t.now result };
+}
+
+/// All are looked at in turn.
+impl Search for KeyedParts<'_> {
+    ghost parts = { λ parts. parts };
+
+    fn parts(&self) -> &KeyedParts {
+        self
+    }
+
+    fn find(&self, t: &[u8]) -> usize {
+        for i in 0..self.count {
+            if texts::same(self.key(i), t) {
+                return i;
+            }
         }
-        i += 1;
+        self.count
     }
-    i
 }
 
-// The same by a sorted order, in which all keys ahead of its rank are less: the key stands there first, or nowhere.
-fn find_by(b: &[u8], keys: Keys, n: usize, order: &[u16], t: &[u8]) -> usize
-    requires whole { n * keys.width ≤ length b.now }
-    requires forward { Forward keys }
-    requires few { n ≤ length order.now }
-    requires ordered { Sorted keys b.now order.now n }
-    ensures { (result ≡ place (has_key (key_of keys) t.now) (parts_of keys n b.now)) × (result ≤ n) }
-{
-    let rank = seek(b, keys, n, order, t);
-    if !is_ahead(b, keys, n, order, rank, t) {
-        return search_for(b, keys, n, t);
+/// By the sorted order: where all keys ahead of a rank are less, the key stands there first, or nowhere.
+impl Search for Shelf<'_, '_> {
+    ghost parts = { λ shelf. shelf.parts };
+
+    fn parts(&self) -> &KeyedParts {
+        &self.parts
     }
-    if is_here(b, keys, n, order, rank, t) {
-        return wide(order[rank]);
+
+    fn find(&self, t: &[u8]) -> usize {
+        let rank = self.seek(t);
+        if !self.is_ahead(rank, t) {
+            return self.parts.find(t);
+        }
+        if self.is_here(rank, t) {
+            return usize::from(self.order[rank]);
+        }
+        if self.is_behind(rank, t) {
+            return self.parts.count;
+        }
+        self.parts.find(t)
     }
-    if is_behind(b, keys, n, order, rank, t) {
-        return n;
-    }
-    search_for(b, keys, n, t)
 }
 
-// The same by the order, where it is sorted.
-fn find(b: &[u8], keys: Keys, n: usize, order: &[u16], sorted: bool, t: &[u8]) -> usize
-    requires whole { n * keys.width ≤ length b.now }
-    requires forward { Forward keys }
-    requires few { n ≤ length order.now }
-    requires ordered { sorted ≡ true → Sorted keys b.now order.now n }
-    ensures { (result ≡ place (has_key (key_of keys) t.now) (parts_of keys n b.now)) × (result ≤ n) }
+// The place of the key of the line at place i, if it is marked 0.
+fn place_for<S: Search>(among: &S, lines: &Marked, i: usize) -> usize
+    requires { i < length lines.now.marks.now }
+    ensures { (result ≡ place_for (key_of (S.parts among.now).keys) (parts_of (S.parts among.now).keys (S.parts among.now).count (S.parts among.now).block.now) (key_of lines.now.parts.keys) lines.now.parts.keys.width lines.now.parts.block.now lines.now.marks.now i) × (result ≤ (S.parts among.now).count) }
 {
-    if sorted {
-        return find_by(b, keys, n, order, t);
+    if lines.marks[i] != 0 {
+        return among.parts().count;
     }
-    search_for(b, keys, n, t)
+    among.find(lines.parts.key(i))
 }
 
-// The same for the key of the line at place i, if it is marked 0.
-fn place_for(
-    b: &[u8],
-    keys: Keys,
-    n: usize,
-    order: &[u16],
-    sorted: bool,
-    lines: &[u8],
-    line: Keys,
-    marks: &[u8],
-    i: usize,
-) -> usize
-    requires whole { n * keys.width ≤ length b.now }
-    requires forward { Forward keys }
-    requires few { n ≤ length order.now }
-    requires ordered { sorted ≡ true → Sorted keys b.now order.now n }
-    requires lined { length marks.now * line.width ≤ length lines.now }
-    requires line_forward { Forward line }
-    requires within { i < length marks.now }
-    ensures { (result ≡ place_for (key_of keys) (parts_of keys n b.now) (key_of line) line.width lines.now marks.now i) × (result ≤ n) }
+// What `places` promises.
+fn fill<S: Search>(among: &S, lines: &Marked, found: &mut [u16])
+    requires few { (S.parts among.now).count ≤ parts_most }
+    requires marked { length found.old ≤ length lines.now.marks.now }
+    ensures { Places (S.parts among.now).block.now (S.parts among.now).keys (S.parts among.now).count lines.now.parts.block.now lines.now.parts.keys lines.now.marks.now found.old found.new }
 {
-    if marks[i] != 0 {
-        return n;
-    }
-    find(b, keys, n, order, sorted, keys::key(lines, line, i))
-}
-
-// What `places` promises, by an order that may be sorted.
-fn fill(
-    b: &[u8],
-    keys: Keys,
-    n: usize,
-    order: &[u16],
-    sorted: bool,
-    lines: &[u8],
-    line: Keys,
-    marks: &[u8],
-    found: &mut [u16],
-)
-    requires whole { n * keys.width ≤ length b.now }
-    requires forward { Forward keys }
-    requires few { n ≤ parts_most }
-    requires room { n ≤ length order.now }
-    requires ordered { sorted ≡ true → Sorted keys b.now order.now n }
-    requires lined { length marks.now * line.width ≤ length lines.now }
-    requires line_forward { Forward line }
-    requires marked { length found.old ≤ length marks.now }
-    ensures { Places b.now keys n lines.now line marks.now found.old found.new }
-{
-    let mut i: usize = 0;
-    while i < found.len() {
-        let at = place_for(b, keys, n, order, sorted, lines, line, marks, i);
+    for i in 0..found.len() {
+        let at = place_for(among, lines, i);
         found[i] = at as u16;
-        i += 1;
     }
 }
 
-// Where the keys of lines stand among n parts of a block, for as many lines as `found` has room for: a line that is not
-// marked 0 is not looked for. The places of the parts are sorted in the index, which is lent in any state and means nothing
-// afterwards.
-pub fn places_by(
-    b: &[u8],
-    keys: Keys,
-    n: usize,
-    lines: &[u8],
-    line: Keys,
-    marks: &[u8],
-    index: &mut [u16],
-    found: &mut [u16],
-)
-    requires whole { n * keys.width ≤ length b.now }
-    requires forward { Forward keys }
-    requires lined { length marks.now * line.width ≤ length lines.now }
-    requires line_forward { Forward line }
-    requires marked { length found.old ≤ length marks.now }
-    requires few { n ≤ parts_most }
-    requires indexed { n ≤ length index.old }
-    ensures { PlacesBy b.now keys n lines.now line marks.now found.old found.new }
+/// Where the keys of lines stand among the parts of a block, for as many lines as `found` has room for: a line that is not
+/// marked 0 is not looked for. The places of the parts are sorted in the index, which is lent in any state and means nothing
+/// afterwards.
+pub fn places_by(parts: &KeyedParts, lines: &Marked, index: &mut [u16], found: &mut [u16])
+    requires marked { length found.old ≤ length lines.now.marks.now }
+    requires few { parts.now.count ≤ parts_most }
+    requires indexed { parts.now.count ≤ length index.old }
+    ensures { PlacesBy parts.now.block.now parts.now.keys parts.now.count lines.now.parts.block.now lines.now.parts.keys lines.now.marks.now found.old found.new }
 {
-    let sorted = arrange(b, keys, n, found.len(), index);
-    fill(b, keys, n, index, sorted, lines, line, marks, found);
+    match arrange(parts, found.len(), &mut index[..parts.count]) {
+        Some(shelf) => fill(&shelf, lines, found),
+        None => fill(parts, lines, found),
+    }
 }
 
-// The same with an index of its own.
-pub fn places(
-    b: &[u8],
-    keys: Keys,
-    n: usize,
-    lines: &[u8],
-    line: Keys,
-    marks: &[u8],
-    found: &mut [u16],
-)
-    requires whole { n * keys.width ≤ length b.now }
-    requires forward { Forward keys }
-    requires lined { length marks.now * line.width ≤ length lines.now }
-    requires line_forward { Forward line }
-    requires marked { length found.old ≤ length marks.now }
-    requires few { 0 < length found.old → n ≤ parts_most }
-    ensures { Places b.now keys n lines.now line marks.now found.old found.new }
+/// The same with an index of its own.
+pub fn places(parts: &KeyedParts, lines: &Marked, found: &mut [u16])
+    requires marked { length found.old ≤ length lines.now.marks.now }
+    requires few { 0 < length found.old → parts.now.count ≤ parts_most }
+    ensures { Places parts.now.block.now parts.now.keys parts.now.count lines.now.parts.block.now lines.now.parts.keys lines.now.marks.now found.old found.new }
 {
-    if found.len() == 0 {
+    if found.is_empty() {
         return;
     }
     let mut index = [0u16; PARTS_MOST];
-    places_by(b, keys, n, lines, line, marks, &mut index, found);
+    places_by(parts, lines, &mut index, found);
 }
 
-// Of the part at this rank: the place of the first that has its key. Of the parts ahead of it `found` tells it already.
-fn first_at(b: &[u8], keys: Keys, n: usize, order: &[u16], rank: usize, found: &[u16]) -> u16
-    requires whole { n * keys.width ≤ length b.now }
-    requires forward { Forward keys }
-    requires room { n ≤ length order.now }
-    requires ordered { Sorted keys b.now order.now n }
-    requires within { rank < n }
-    requires led { Led keys n b.now order.now rank found.now }
-    ensures { result ≡ first_for keys n b.now (get_or order.now rank 0) }
-{
-    if rank == 0 {
-        return order[rank];
-    }
-    let ahead = rank - 1;
-    let there = key_at(b, keys, n, order, ahead);
-    if texts::same(there, key_at(b, keys, n, order, rank)) {
-        let place = wide(order[ahead]);
-        return found[place];
-    }
-    order[rank]
-}
-
-// What `firsts` promises, by a sorted order: from the lowest key to the highest.
-fn lead(b: &[u8], keys: Keys, order: &[u16], found: &mut [u16])
-    requires whole { length found.old * keys.width ≤ length b.now }
-    requires forward { Forward keys }
-    requires room { length found.old ≤ length order.now }
-    requires ordered { Sorted keys b.now order.now (length found.old) }
-    ensures { Firsts b.now keys found.old found.new }
-{
-    let n = found.len();
-    let mut rank: usize = 0;
-    while rank < n {
-        let first = first_at(b, keys, n, order, rank, found);
-        let place = wide(order[rank]);
-        found[place] = first;
-        rank += 1;
-    }
-}
-
-// Of each part, the place of the first that has its key; as many parts as `found` has room for.
-pub fn firsts(b: &[u8], keys: Keys, found: &mut [u16])
-    requires whole { length found.old * keys.width ≤ length b.now }
-    requires forward { Forward keys }
+/// Of each part, the place of the first that has its key; as many parts as `found` has room for.
+pub fn firsts(parts: &KeyedParts, found: &mut [u16])
+    requires asked { length found.old ≤ parts.now.count }
     requires few { length found.old ≤ parts_most }
-    ensures { Firsts b.now keys found.old found.new }
+    ensures { Firsts parts.now.block.now parts.now.keys found.old found.new }
 {
-    let n = found.len();
-    let mut order = [0u16; PARTS_MOST];
-    if arrange(b, keys, n, n, &mut order) {
-        lead(b, keys, &order, found);
+    let asked = KeyedParts {
+        block: parts.block,
+        keys: parts.keys,
+        count: found.len(),
+    };
+    let mut index = [0u16; PARTS_MOST];
+    if let Some(shelf) = arrange(&asked, asked.count, &mut index[..asked.count]) {
+        shelf.lead(found);
         return;
     }
     let marks = [0u8; PARTS_MOST];
-    fill(b, keys, n, &order, false, b, keys, &marks[..n], found);
+    let lines = Marked {
+        parts: asked,
+        marks: &marks[..asked.count],
+    };
+    fill(&asked, &lines, found);
 }

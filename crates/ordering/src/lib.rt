@@ -1,216 +1,196 @@
-// Have no two parts of a block one key, and is each the first that has its own. The parts are sorted by their keys, and
-// the order is tested, since nothing is proved of the sort: where it rises and no part is missing, equal keys are
-// neighbours.
+//! Have no two parts of a block one key, and is each the first that has its own. The parts are sorted by their keys, and
+//! the order is tested, since nothing is proved of the sort: where it rises and no part is missing, equal keys are
+//! neighbours.
 #![tactic(auto)]
 
-ghost use Rattle.std.specs.Prelude.{◌≡◌, true, false, ◌&&◌, ◌*◌, ◌≤◌, ◌<◌, eqb, ltb, length, get_or};
+ghost use Rattle.std.specs.Prelude.{◌≡◌, true, false, ◌&&◌, ◌≤◌, ◌<◌, eqb, ltb, length, get_or};
 ghost use Rattle.sizes.specs.Sizes.{parts_most};
 ghost use Rattle.theory.specs.Below.{below};
 ghost use Rattle.theory.specs.Pick.{good};
-ghost use Rattle.keys.specs.Keys.{Forward};
+ghost use Rattle.theory.specs.Same.{eqs};
+ghost use Rattle.keys.specs.Keys.{key_at};
 ghost use Rattle.sorting.specs.Counts.{counts};
+ghost use Rattle.ordering.specs.Ranks.{ranked};
+ghost use Rattle.ordering.specs.declared.Found.TheVariants as found;
 ghost use Rattle.ordering.specs.laws.Again.{in_front, fresh};
-ghost use Rattle.ordering.specs.laws.Order.{found_rising, found_again, Step, Rising};
+ghost use Rattle.ordering.specs.laws.Order.{Step, Rising};
 ghost use Rattle.ordering.specs.Promises.{AreApart, AreFirsts, Covers};
 
-use keys::Keys;
+use keys::Marked;
 use sizes::PARTS_MOST;
 
-// What is found of two parts, or of all neighbours in an order: they are in order, or a key stands there again, or neither
-// is known.
-const RISING: u8 = 0;
-
-const AGAIN: u8 = 1;
-
-const LOST: u8 = 2;
-
-fn wide(x: u16) -> usize
-    ensures { result ≡ x }
-{
-    x as usize
-}
-
-// Does a part with this mark count: every part does, or each that is marked 0.
-fn counts(mark: u8, all: bool) -> bool
-    ensures { result ≡ counts all mark }
-{
-    all | (mark == 0)
+/// What is found of two parts, or of all neighbours in an order: they are in order, or a key stands there again, or neither
+/// is known.
+#[derive(Clone, Copy, Debug, PartialEq, Eq)]
+enum Found {
+    Rising,
+    Again,
+    Lost,
 }
 
 // Two parts with one key are in order where only the first is marked 0, and where both count the key stands there again.
-fn stay(marks: &[u8], all: bool, a: usize, c: usize) -> u8
+#[tactic(auto, using(crate::proofs::Laws::good_eq, crate::proofs::Laws::good_ne))]
+fn stay(marks: &[u8], all: bool, a: usize, c: usize) -> Found
     requires { (a < length marks.now) × (c < length marks.now) }
-    ensures rising { result ≡ found_rising → (a < c) × (good (get_or marks.now c 0) ≡ false) }
-    ensures repeated { result ≡ found_again → (a < c) × (good (get_or marks.now c 0) ≡ true) × (counts all (get_or marks.now a 0) ≡ true) }
+    ensures rising { result ≡ found.Rising → (a < c) × (good (get_or marks.now c 0) ≡ false) }
+    ensures repeated { result ≡ found.Again → (a < c) × (good (get_or marks.now c 0) ≡ true) × (counts all (get_or marks.now a 0) ≡ true) }
 {
     if c <= a {
-        return LOST;
+        Found::Lost
+    } else if marks[c] != 0 {
+        Found::Rising
+    } else if sorting::counts(marks[a], all) {
+        Found::Again
+    } else {
+        Found::Lost
     }
-    if marks[c] != 0 {
-        return RISING;
-    }
-    if counts(marks[a], all) {
-        return AGAIN;
-    }
-    LOST
 }
 
 // From the part a to its neighbour c.
-fn step(b: &[u8], keys: Keys, marks: &[u8], all: bool, a: usize, c: usize) -> u8
-    requires whole { length marks.now * keys.width ≤ length b.now }
-    requires forward { Forward keys }
-    requires here { a < length marks.now }
-    requires there { c < length marks.now }
-    ensures rising { result ≡ found_rising → Step keys b.now marks.now a c }
-    ensures repeated { result ≡ found_again → fresh keys b.now all marks.now c ≡ false }
+fn step(marked: &Marked, all: bool, a: usize, c: usize) -> Found
+    requires here { a < length marked.now.marks.now }
+    requires there { c < length marked.now.marks.now }
+    ensures rising { result ≡ found.Rising → Step marked.now.parts.keys marked.now.parts.block.now marked.now.marks.now a c }
+    ensures repeated { result ≡ found.Again → fresh marked.now.parts.keys marked.now.parts.block.now all marked.now.marks.now c ≡ false }
 {
-    let here = keys::key(b, keys, a);
-    let there = keys::key(b, keys, c);
+    let here = marked.parts.key(a);
+    let there = marked.parts.key(c);
     if keys::is_less(here, there) {
-        return RISING;
+        return Found::Rising;
     }
     if !texts::same(here, there) {
-        return LOST;
+        return Found::Lost;
     }
-    stay(marks, all, a, c)
+    stay(marked.marks, all, a, c)
 }
 
-// Does the order rise from each of its first m places to the next.
-fn rise(b: &[u8], keys: Keys, marks: &[u8], all: bool, order: &[u16; PARTS_MOST], m: usize) -> u8
-    requires { (length marks.now * keys.width ≤ length b.now) × Forward keys × (m ≤ parts_most) }
-    ensures rising { result ≡ found_rising → Rising keys b.now marks.now order.now m }
-    ensures repeated { result ≡ found_again → below (fresh keys b.now all marks.now) (length marks.now) ≡ false }
+// Does the order rise from each of its places to the next.
+fn rise(marked: &Marked, all: bool, order: &[u16]) -> Found
+    ensures rising { result ≡ found.Rising → Rising marked.now.parts.keys marked.now.parts.block.now marked.now.marks.now order.now (length order.now) }
+    ensures repeated { result ≡ found.Again → below (fresh marked.now.parts.keys marked.now.parts.block.now all marked.now.marks.now) (length marked.now.marks.now) ≡ false }
 {
-    let mut i: usize = 0;
-    while i + 1 < m {
-        let a = wide(order[i]);
-        let c = wide(order[i + 1]);
-        if marks.len() <= a {
-            return LOST;
+    for i in 1..order.len() {
+        let a = usize::from(order[i - 1]);
+        let c = usize::from(order[i]);
+        if marked.marks.len() <= a || marked.marks.len() <= c {
+            return Found::Lost;
         }
-        if marks.len() <= c {
-            return LOST;
+        match step(marked, all, a, c) {
+            Found::Rising => {}
+            Found::Again => return Found::Again,
+            Found::Lost => return Found::Lost,
         }
-        let found = step(b, keys, marks, all, a, c);
-        if found != RISING {
-            return found;
-        }
-        i += 1;
     }
-    RISING
+    Found::Rising
 }
 
 // Stands a at this rank.
-fn is_at(order: &[u16], m: usize, rank: usize, a: usize) -> bool
-    requires { m ≤ length order.now }
-    ensures { result ≡ ltb rank m && eqb (get_or order.now rank 0) a }
+fn is_at(order: &[u16], rank: usize, a: usize) -> bool
+    ensures { result ≡ ltb rank (length order.now) && eqb (get_or order.now rank 0) a }
 {
-    if m <= rank {
-        return false;
-    }
-    wide(order[rank]) == a
+    rank < order.len() && usize::from(order[rank]) == a
 }
 
-// Stands each part that counts at its rank, among the first m of the order.
-pub fn covers(marks: &[u8], all: bool, order: &[u16], ranks: &[u16; PARTS_MOST], m: usize) -> bool
-    requires { (length marks.now ≤ parts_most) × (m ≤ length order.now) }
-    ensures { Covers marks.now all order.now ranks.now m result }
+// Stands the part a at its rank, if it counts.
+#[tactic(auto, unfolding(crate::specs::Ranks::ranked))]
+fn stands(marks: &[u8], all: bool, order: &[u16], ranks: &[u16; PARTS_MOST], a: usize) -> bool
+    requires { (a < length marks.now) × (length marks.now ≤ parts_most) }
+    ensures { result ≡ ranked all marks.now order.now ranks.now (length order.now) a }
 {
-    let mut a: usize = 0;
-    while a < marks.len() {
-        let stands = is_at(order, m, wide(ranks[a]), a);
-        if counts(marks[a], all) & !stands {
+    !sorting::counts(marks[a], all) || is_at(order, usize::from(ranks[a]), a)
+}
+
+/// Stands each part that counts at its rank in the order.
+pub fn covers(marks: &[u8], all: bool, order: &[u16], ranks: &[u16; PARTS_MOST]) -> bool
+    requires { length marks.now ≤ parts_most }
+    ensures { Covers marks.now all order.now ranks.now (length order.now) result }
+{
+    for a in 0..marks.len() {
+        if !stands(marks, all, order, ranks, a) {
             return false;
         }
-        a += 1;
     }
     true
 }
 
-// Has one of the first n parts that count the key t.
-fn is_in_front(b: &[u8], keys: Keys, marks: &[u8], all: bool, n: usize, t: &[u8]) -> bool
-    requires { (length marks.now * keys.width ≤ length b.now) × Forward keys × (n ≤ length marks.now) }
-    ensures { result ≡ in_front keys b.now all marks.now n t.now }
+// Counts the part at place i, and has it the key t.
+fn has_key(marked: &Marked, all: bool, i: usize, t: &[u8]) -> bool
+    requires { i < length marked.now.marks.now }
+    ensures { result ≡ counts all (get_or marked.now.marks.now i 0) && eqs t.now (key_at marked.now.parts.keys marked.now.parts.block.now i) }
 {
-    let mut i: usize = 0;
-    while i < n {
-        let same = texts::same(t, keys::key(b, keys, i));
-        if counts(marks[i], all) & same {
+    sorting::counts(marked.marks[i], all) && texts::same(t, marked.parts.key(i))
+}
+
+// Has one of the first n parts that count the key t.
+fn is_in_front(marked: &Marked, all: bool, n: usize, t: &[u8]) -> bool
+    requires { n ≤ length marked.now.marks.now }
+    ensures { result ≡ in_front marked.now.parts.keys marked.now.parts.block.now all marked.now.marks.now n t.now }
+{
+    for i in 0..n {
+        if has_key(marked, all, i, t) {
             return true;
         }
-        i += 1;
     }
     false
 }
 
-// Each part beside all in front of it: as many comparisons as the square of the parts.
-fn search(b: &[u8], keys: Keys, marks: &[u8], all: bool) -> bool
-    requires { (length marks.now * keys.width ≤ length b.now) × Forward keys }
-    ensures { result ≡ below (fresh keys b.now all marks.now) (length marks.now) }
+// Is the part at place i not marked 0, or is there none in front of it with its key.
+#[tactic(auto, using(crate::proofs::Laws::good_eq, crate::proofs::Laws::good_ne), unfolding(crate::specs::laws::Again::fresh))]
+fn is_fresh(marked: &Marked, all: bool, i: usize) -> bool
+    requires { i < length marked.now.marks.now }
+    ensures { result ≡ fresh marked.now.parts.keys marked.now.parts.block.now all marked.now.marks.now i }
 {
-    let mut i: usize = 0;
-    while i < marks.len() {
-        let again = is_in_front(b, keys, marks, all, i, keys::key(b, keys, i));
-        if (marks[i] == 0) & again {
+    marked.marks[i] != 0 || !is_in_front(marked, all, i, marked.parts.key(i))
+}
+
+// Each part beside all in front of it: as many comparisons as the square of the parts.
+fn search(marked: &Marked, all: bool) -> bool
+    ensures { result ≡ below (fresh marked.now.parts.keys marked.now.parts.block.now all marked.now.marks.now) (length marked.now.marks.now) }
+{
+    for i in 0..marked.marks.len() {
+        if !is_fresh(marked, all, i) {
             return false;
         }
-        i += 1;
     }
     true
 }
 
 // By the order, where it is one. Any other leads to the search.
-fn test(
-    b: &[u8],
-    keys: Keys,
-    marks: &[u8],
-    all: bool,
-    order: &[u16; PARTS_MOST],
-    ranks: &[u16; PARTS_MOST],
-    m: usize,
-) -> bool
-    requires whole { length marks.now * keys.width ≤ length b.now }
-    requires forward { Forward keys }
-    requires few { length marks.now ≤ parts_most }
-    requires listed { m ≤ parts_most }
-    ensures { result ≡ below (fresh keys b.now all marks.now) (length marks.now) }
+fn test(marked: &Marked, all: bool, order: &[u16], ranks: &[u16; PARTS_MOST]) -> bool
+    requires { length marked.now.marks.now ≤ parts_most }
+    ensures { result ≡ below (fresh marked.now.parts.keys marked.now.parts.block.now all marked.now.marks.now) (length marked.now.marks.now) }
 {
-    let found = rise(b, keys, marks, all, order, m);
-    if found == AGAIN {
-        return false;
+    match rise(marked, all, order) {
+        Found::Again => false,
+        Found::Rising if covers(marked.marks, all, order, ranks) => true,
+        _ => search(marked, all),
     }
-    let covered = covers(marks, all, order, ranks, m);
-    if (found == RISING) & covered {
-        return true;
-    }
-    search(b, keys, marks, all)
 }
 
-fn decide(b: &[u8], keys: Keys, marks: &[u8], all: bool) -> bool
-    requires { (length marks.now * keys.width ≤ length b.now) × Forward keys }
-    ensures { result ≡ below (fresh keys b.now all marks.now) (length marks.now) }
+fn decide(marked: &Marked, all: bool) -> bool
+    ensures { result ≡ below (fresh marked.now.parts.keys marked.now.parts.block.now all marked.now.marks.now) (length marked.now.marks.now) }
 {
-    if PARTS_MOST < marks.len() {
-        return search(b, keys, marks, all);
+    if PARTS_MOST < marked.marks.len() {
+        return search(marked, all);
     }
     let mut order = [0u16; PARTS_MOST];
     let mut ranks = [0u16; PARTS_MOST];
-    let m = sorting::sort(b, keys, marks, all, &mut order, &mut ranks);
-    test(b, keys, marks, all, &order, &ranks, m)
+    let m = sorting::sort(marked, all, &mut order, &mut ranks);
+    test(marked, all, &order[..m], &ranks)
 }
 
-// Have no two of the parts marked 0 one key.
-pub fn are_apart(b: &[u8], keys: Keys, marks: &[u8]) -> bool
-    requires { (length marks.now * keys.width ≤ length b.now) × Forward keys }
-    ensures { AreApart b.now keys marks.now result }
+/// Have no two of the parts marked 0 one key.
+#[tactic(auto, using(crate::proofs::Laws::fresh_apart))]
+pub fn are_apart(marked: &Marked) -> bool
+    ensures { AreApart marked.now.parts.block.now marked.now.parts.keys marked.now.marks.now result }
 {
-    decide(b, keys, marks, false)
+    decide(marked, false)
 }
 
-// Is each part marked 0 the first that has its key.
-pub fn are_firsts(b: &[u8], keys: Keys, marks: &[u8]) -> bool
-    requires { (length marks.now * keys.width ≤ length b.now) × Forward keys }
-    ensures { AreFirsts b.now keys marks.now result }
+/// Is each part marked 0 the first that has its key.
+#[tactic(auto, using(crate::proofs::Laws::fresh_firsts))]
+pub fn are_firsts(marked: &Marked) -> bool
+    ensures { AreFirsts marked.now.parts.block.now marked.now.parts.keys marked.now.marks.now result }
 {
-    decide(b, keys, marks, true)
+    decide(marked, true)
 }

@@ -3,12 +3,8 @@ use mathlib.Core.Path.{◌≡◌}
 use mathlib.Core.Bool.{true}
 use Rattle.theory.specs.Below.{below}
 use Rattle.ordering.specs.Ranks.{ranked}
-use Prim.Native.Nat.{◌≤◌, ◌-◌}
 use lib.ListN.{length}
 use Rattle.ordering.proofs.covers.Given as goal
 
 abbrev pub invariant-loop-a : goal.invariant-loop-a
-invariant-loop-a l = (l.a ≤ length l.marks) × (below (ranked l.all l.marks l.order l.ranks l.m) l.a ≡ true)
-
-abbrev pub decreases-loop-a : goal.decreases-loop-a
-decreases-loop-a l = length l.marks - l.a
+invariant-loop-a l = below (ranked l.all l.marks l.order l.ranks (length l.order)) l.a ≡ true

@@ -1,6 +1,6 @@
-use Rattle.ordering.proofs.Laws.{step_same}
 use mathlib.Core.Path.{ap}
 use mathlib.Core.Bool.{not}
+use Rattle.ordering.proofs.Laws.{step_same}
 use Rattle.ordering.proofs.step.Goals as goal
 
 -- Nested pairs as the record of the clauses.
