@@ -1,140 +1,162 @@
-// The issuer rows: their form (stop 24), whether one has the sender (stop 29), and what a PAN finds among the
-// sender's (L3, L4).
+//! The issuer rows: their form (stop 24), whether one has the sender (stop 29), and what a PAN finds among the
+//! sender's (L3, L4).
 #![tactic(auto)]
 
-ghost use Rattle.std.specs.Prelude.{◌≡◌, ◌&&◌, eqb, ◌*◌, ◌≤◌, length, take};
-ghost use Rattle.theory.specs.Parts.{chop};
-ghost use Rattle.theory.specs.Walk.{each};
-ghost use Rattle.sizes.specs.Sizes.{row_length};
-ghost use Rattle.issuers.specs.Rows.{row_holds, sent_by, row_begins, length_of_pan};
+ghost use Rattle.std.specs.Prelude.{◌≡◌, eqb, take};
+ghost use Rattle.std.specs.List.{list_all, list_any};
+ghost use Rattle.theory.specs.Same.{eqs};
+ghost use Rattle.theory.specs.Every.{leading};
+ghost use Rattle.fields.specs.Field.{digit};
+ghost use Rattle.issuers.specs.Rows.{bin, length_of_bin_id, rows_of, row_holds, sent_by, length_of_pan, row_begins, row_fits};
 ghost use Rattle.issuers.specs.Promises.{AreRows, IsKnown, IssuedTo};
 
-// What a PAN finds among the sender's rows: one whose BIN ID digits begin it (L3), and such a one that has its number
-// of digits (L4).
-#[derive(Clone, Copy)]
+use texts::Columns;
+
+/// What a PAN finds among the sender's rows: one whose BIN ID digits begin it (L3), and such a one that has its number
+/// of digits (L4).
+// Stays: two flags, since two rules ask one each.
+#[derive(Clone, Copy, Debug, PartialEq, Eq)]
 pub struct Issued {
     pub begins: bool,
     pub fits: bool,
 }
 
-const BIN_FROM: usize = 1;
+const BIN: Columns = Columns { from: 1, to: 14 };
 
-const BIN_TO: usize = 14;
+const BIN_ID_LENGTH: Columns = Columns { from: 15, to: 16 };
 
-const BIN_ID_LENGTH_FROM: usize = 15;
+const PAN_LENGTH: Columns = Columns { from: 17, to: 18 };
 
-const BIN_ID_LENGTH_TO: usize = 16;
+const ACTOR: Columns = Columns { from: 19, to: 24 };
 
-const PAN_LENGTH_FROM: usize = 17;
+// Its rows; what is left behind the last whole one is no row.
+#[tactic(auto, using(theory::specs::laws::Words::chop_is))]
+fn rows(b: &[u8]) -> &[[u8; sizes::ROW]]
+    ensures { result.now ≡ rows_of b.now }
+{
+    b.as_chunks::<{ sizes::ROW }>().0
+}
 
-const PAN_LENGTH_TO: usize = 18;
-
-const ACTOR_FROM: usize = 19;
-
-const ACTOR_TO: usize = 24;
-
+#[tactic(auto, unfolding(crate::specs::Rows::row_holds, characters::specs::Characters::filled), using(texts::specs::laws::Field::field_most))]
 fn is_row(r: &[u8]) -> bool
     ensures { result ≡ row_holds r.now }
 {
-    let bin = texts::field(r, BIN_FROM, BIN_TO);
+    let bin = BIN.of(r);
     let given = characters::digits_in(bin);
-    let bin_length = texts::field(r, BIN_ID_LENGTH_FROM, BIN_ID_LENGTH_TO);
+    let bin_length = BIN_ID_LENGTH.of(r);
     let used = numbers::number(bin_length);
-    let pan_length = texts::field(r, PAN_LENGTH_FROM, PAN_LENGTH_TO);
+    let pan_length = PAN_LENGTH.of(r);
     let digits = numbers::number(pan_length);
-    (6 <= given)
-        & characters::is_filled(bin, given)
-        & fields::is_digits(bin_length, 2)
-        & (6 <= used)
-        & (used <= 14)
-        & (used <= given as u64)
-        & fields::is_digits(pan_length, 2)
-        & (used < digits)
-        & (digits <= 19)
-        & fields::is_digits(texts::field(r, ACTOR_FROM, ACTOR_TO), 6)
+    6 <= given
+        && characters::is_filled(bin, given)
+        && fields::is_digits(bin_length, 2)
+        && 6 <= used
+        && used <= 14
+        && used <= given as u64
+        && fields::is_digits(pan_length, 2)
+        && used < digits
+        && digits <= 19
+        && fields::is_digits(ACTOR.of(r), 6)
 }
 
-fn each_row(b: &[u8], n: usize) -> bool
-    requires { n * row_length ≤ length b.now }
-    ensures { result ≡ each row_holds (chop row_length n b.now) }
+fn each_row(rows: &[[u8; sizes::ROW]]) -> bool
+    ensures { result ≡ list_all row_holds rows.now }
 {
-    let mut i: usize = 0;
-    while i < n {
-        if !is_row(texts::part(b, sizes::ROW, i)) {
-            return false;
-        }
-        i += 1;
-    }
-    true
+    rows.iter().all(|r| is_row(r))
 }
 
+/// Are these bytes 0 to 64 rows, each in form.
+#[tactic(auto, unfolding(crate::specs::Rows::rows_hold), using(theory::specs::laws::Words::each_is))]
 pub fn are_rows(b: &[u8]) -> bool
     ensures { AreRows b.now result }
 {
-    let n = b.len() / sizes::ROW;
-    (b.len() % sizes::ROW == 0) & (n <= sizes::ROWS_MOST) & each_row(b, n)
+    b.len() % sizes::ROW == 0 && b.len() / sizes::ROW <= sizes::ROWS_MOST && each_row(rows(b))
 }
 
+#[tactic(auto, unfolding(crate::specs::Rows::sent_by))]
 fn is_sent_by(sender: &[u8], r: &[u8]) -> bool
     ensures { result ≡ sent_by sender.now r.now }
 {
-    texts::same(texts::field(r, ACTOR_FROM, ACTOR_TO), sender)
+    texts::same(ACTOR.of(r), sender)
 }
 
-// Does a row have the sender.
+fn has_sender(rows: &[[u8; sizes::ROW]], sender: &[u8]) -> bool
+    ensures { result ≡ list_any (sent_by sender.now) rows.now }
+{
+    rows.iter().any(|r| is_sent_by(sender, r))
+}
+
+/// Does a row have the sender.
+#[tactic(auto, unfolding(crate::specs::Rows::known), using(theory::specs::laws::Words::some_is))]
 pub fn is_known(b: &[u8], sender: &[u8]) -> bool
     ensures { IsKnown b.now sender.now result }
 {
-    let n = b.len() / sizes::ROW;
-    let mut found = false;
-    let mut i: usize = 0;
-    while i < n {
-        found = found | is_sent_by(sender, texts::part(b, sizes::ROW, i));
-        i += 1;
-    }
-    found
+    has_sender(rows(b), sender)
 }
 
 // The first n bytes, or all where there are fewer.
-fn head<'a>(s: &'a [u8], n: u64) -> &'a [u8]
+fn head(s: &[u8], n: u64) -> &[u8]
     ensures { result.now ≡ take n s.now }
 {
     if (s.len() as u64) < n {
-        return &s[0..];
+        s
+    } else {
+        &s[..n as usize]
     }
-    let end = n as usize;
-    &s[..end]
 }
 
+// The row's BIN ID digits begin the PAN.
+#[tactic(auto, using(texts::specs::laws::Field::field_most))]
+fn has_bin(pan: &[u8], r: &[u8]) -> bool
+    ensures { result ≡ eqs (take (length_of_bin_id r.now) (bin r.now)) (take (length_of_bin_id r.now) pan.now) }
+{
+    let used = numbers::number(BIN_ID_LENGTH.of(r));
+    texts::same(head(BIN.of(r), used), head(pan, used))
+}
+
+#[tactic(auto, unfolding(crate::specs::Rows::row_begins))]
 fn row_begins(sender: &[u8], pan: &[u8], r: &[u8]) -> bool
     ensures { result ≡ row_begins sender.now pan.now r.now }
 {
-    let used = numbers::number(texts::field(r, BIN_ID_LENGTH_FROM, BIN_ID_LENGTH_TO));
-    let bin = texts::field(r, BIN_FROM, BIN_TO);
-    is_sent_by(sender, r) & texts::same(head(bin, used), head(pan, used))
+    is_sent_by(sender, r) && has_bin(pan, r)
 }
 
-// The row begins the PAN, of `digits` digits, and has this number of digits.
-fn row_fits(r: &[u8], begins: bool, digits: usize) -> bool
-    ensures { result ≡ begins && eqb (length_of_pan r.now) digits }
+// The row has the PAN's number of digits.
+#[tactic(auto, using(texts::specs::laws::Field::field_most))]
+fn has_digits(pan: &[u8], r: &[u8]) -> bool
+    ensures { result ≡ eqb (length_of_pan r.now) (leading digit pan.now) }
 {
-    begins & (numbers::number(texts::field(r, PAN_LENGTH_FROM, PAN_LENGTH_TO)) == digits as u64)
+    let digits = characters::digits_in(pan) as u64;
+    numbers::number(PAN_LENGTH.of(r)) == digits
 }
 
+#[tactic(auto, unfolding(crate::specs::Rows::row_fits))]
+fn row_fits(sender: &[u8], pan: &[u8], r: &[u8]) -> bool
+    ensures { result ≡ row_fits sender.now pan.now r.now }
+{
+    row_begins(sender, pan, r) && has_digits(pan, r)
+}
+
+fn begins(rows: &[[u8; sizes::ROW]], sender: &[u8], pan: &[u8]) -> bool
+    ensures { result ≡ list_any (row_begins sender.now pan.now) rows.now }
+{
+    rows.iter().any(|r| row_begins(sender, pan, r))
+}
+
+fn fits(rows: &[[u8; sizes::ROW]], sender: &[u8], pan: &[u8]) -> bool
+    ensures { result ≡ list_any (row_fits sender.now pan.now) rows.now }
+{
+    rows.iter().any(|r| row_fits(sender, pan, r))
+}
+
+/// What this PAN finds among the sender's rows.
+#[tactic(auto, unfolding(crate::specs::Rows::issued_of, crate::specs::Rows::some_row_begins, crate::specs::Rows::some_row_fits), using(theory::specs::laws::Words::some_is))]
 pub fn issued_to(b: &[u8], sender: &[u8], pan: &[u8]) -> Issued
     ensures { IssuedTo b.now sender.now pan.now result }
 {
-    let n = b.len() / sizes::ROW;
-    let digits = characters::digits_in(pan);
-    let mut begins = false;
-    let mut fits = false;
-    let mut i: usize = 0;
-    while i < n {
-        let r = texts::part(b, sizes::ROW, i);
-        let t = row_begins(sender, pan, r);
-        begins = begins | t;
-        fits = fits | row_fits(r, t, digits);
-        i += 1;
+    let rows = rows(b);
+    Issued {
+        begins: begins(rows, sender, pan),
+        fits: fits(rows, sender, pan),
     }
-    Issued { begins, fits }
 }

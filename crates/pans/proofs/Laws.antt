@@ -1,9 +1,8 @@
 -- The table's rule, and laws of the Luhn sum in the form that its loop uses. Assumes nothing.
-use mathlib.Core.Path.{◌≡◌, refl, ◌∙◌}
+use mathlib.Core.Path.{◌≡◌, ◌∙◌}
 use mathlib.Core.Bool.{true}
 use mathlib.Core.List.{List}
 use Prim.Native.Nat.{ℕ, suc, ◌<◌, ◌≤◌, ◌+◌, ◌-◌, ◌%◌}
-use native.Mathlib.Nat.{zero-add}
 use native.Mathlib.Numerals.{add-one}
 use native.Mathlib.Omega.{arith}
 use lib.Dec.{leb}
@@ -45,12 +44,8 @@ addend_plain d k h = rw (ne_eqb (k % 2) 1 h)
 
 -- the last digit of the whole sum is that of what is kept and what is left
 pub record Summing (s : List ℕ) (sum i : ℕ) : Type 0 where
-  pub within : i ≤ length s
   pub last : sum < 10
   pub whole : (sum + luhn_sum (drop i s)) % 10 ≡ luhn_sum s % 10
-
-pub sum_start : (s : List ℕ) → Summing s 0 0
-sum_start s = record { within = omega arith; last = omega arith; whole = rw zero-add refl }
 
 pub sum_turn : (s : List ℕ) (sum i c : ℕ) → Summing s sum i → i < length s → c ≡ addend (get_or s i 0 - byte "0") (length s - 1 - i)
     → Summing s ((sum + c) % 10) (i + 1)
@@ -58,7 +53,7 @@ unfolding luhn_sum
 sum_turn s sum i c v h e =
     let k : length (drop (suc i) s) ≡ length s - 1 - i = length-drop (suc i) s ∙ omega arith in
     let t : luhn_sum (drop i s) ≡ c + luhn_sum (drop (i + 1) s) = rw (add-one, drop-cons s i 0, k, ← e) in
-    record { within = omega arith; last = omega arith; whole = omega (arith, v.whole) }
+    record { last = omega arith; whole = omega (arith, v.whole) }
 
 pub sum_end : (s : List ℕ) (sum i : ℕ) → Summing s sum i → length s ≤ i → sum ≡ luhn_sum s % 10
 unfolding luhn_sum

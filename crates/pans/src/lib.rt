@@ -1,4 +1,4 @@
-// The personal account number: its form (L1) and its Luhn sum (L5).
+//! The personal account number: its form (L1) and its Luhn sum (L5).
 #![tactic(auto)]
 
 ghost use Rattle.std.specs.Prelude.{◌≡◌, true, ◌<◌, ◌%◌};
@@ -10,30 +10,37 @@ ghost use Rattle.pans.specs.Promises.{IsPan, IsLuhn};
 
 const PAN_LENGTH: usize = 19;
 
-// What a digit from 0 to 9 counts where it is doubled, as a card manual lists it.
-const DOUBLED: [u64; 10] = [0, 2, 4, 6, 8, 1, 3, 5, 7, 9];
+// What a digit from 0 to 9 counts where it is doubled.
+struct Doubling {
+    table: [u64; 10],
+    ghost listed: { table ≡ doubled_table },
+}
 
+// As a card manual lists it.
+const DOUBLED: Doubling = Doubling {
+    table: [0, 2, 4, 6, 8, 1, 3, 5, 7, 9],
+};
+
+/// 1 to 19 digits, then blanks, over the whole field (L1).
+#[tactic(auto, unfolding(crate::specs::Pan::pan, characters::specs::Characters::filled))]
 pub fn is_pan(f: &[u8]) -> bool
     ensures { IsPan f.now result }
 {
-    (f.len() == PAN_LENGTH) & characters::is_filled(f, characters::digits_in(f))
+    f.len() == PAN_LENGTH && characters::is_filled(f, characters::digits_in(f))
 }
 
-fn doubled(table: &[u64; 10], d: u64) -> u64
-    requires { (table.now ≡ doubled_table) × (d < 10) }
+fn doubled(by: &Doubling, d: u64) -> u64
+    requires { d < 10 }
     ensures { result ≡ doubled d }
 {
-    table[d as usize]
+    by.table[d as usize]
 }
 
-fn addend(table: &[u64; 10], d: u64, behind: usize) -> u64
-    requires { (table.now ≡ doubled_table) × (d < 10) }
+fn addend(by: &Doubling, d: u64, behind: usize) -> u64
+    requires { d < 10 }
     ensures { (result ≡ addend d behind) × (result < 10) }
 {
-    if behind % 2 == 1 {
-        return doubled(table, d);
-    }
-    d
+    if behind % 2 == 1 { doubled(by, d) } else { d }
 }
 
 // The last digit of a sum of two digits, without a division.
@@ -41,29 +48,24 @@ fn last_digit(sum: u64) -> u64
     requires { sum < 20 }
     ensures { result ≡ sum % 10 }
 {
-    if sum < 10 {
-        return sum;
-    }
-    sum - 10
+    if sum < 10 { sum } else { sum - 10 }
 }
 
 // The Luhn sum, of which only the last digit is kept. The table is lent, since a constant that is read in a loop is made
 // anew in each turn.
-fn luhn_sum(table: &[u64; 10], digits: &[u8]) -> u64
-    requires { (table.now ≡ doubled_table) × (all digit digits.now ≡ true) }
+fn luhn_sum(by: &Doubling, digits: &[u8]) -> u64
+    requires { all digit digits.now ≡ true }
     ensures { result ≡ luhn_sum digits.now % 10 }
 {
-    let n = digits.len();
     let mut sum: u64 = 0;
-    let mut i: usize = 0;
-    while i < n {
-        let d = (digits[i] - b'0') as u64;
-        sum = last_digit(sum + addend(table, d, n - 1 - i));
-        i += 1;
+    for (i, &digit) in digits.iter().enumerate() {
+        let d = u64::from(digit - b'0');
+        sum = last_digit(sum + addend(by, d, digits.len() - 1 - i));
     }
     sum
 }
 
+/// Is the Luhn sum of the digits in front a multiple of ten (L5); their check digit stands last.
 pub fn is_luhn(f: &[u8]) -> bool
     ensures { IsLuhn f.now result }
 {

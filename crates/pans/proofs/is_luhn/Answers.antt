@@ -10,9 +10,12 @@ use Rattle.pans.proofs.is_luhn.Goals as goal
 pub slice_bounds-luhn_sum-end : goal.slice_bounds-luhn_sum-end
 slice_bounds-luhn_sum-end c = rw c.digits_in-k.ensures (sym (length-take-le _ _ (leading_most _ _)))
 
-pub luhn_sum-requires : goal.luhn_sum-requires
+pub invariant_of-luhn_sum : goal.invariant_of-luhn_sum
 unfolding doubled_table table_of table_from doubled
-luhn_sum-requires c = (search rules, rw c.digits_in-k.ensures (leading_all _ _))
+invariant_of-luhn_sum c = record { listed = search rules }
+
+pub luhn_sum-requires : goal.luhn_sum-requires
+luhn_sum-requires c = rw c.digits_in-k.ensures (leading_all _ _)
 
 pub returns : goal.returns
 unfolding luhn

@@ -3,4 +3,4 @@ use Rattle.plates.proofs.Laws.{judged}
 use Rattle.plates.proofs.admits.Goals as goal
 
 pub returns : goal.returns
-returns c = judged _ c.requires _ (search rules)
+returns c = rw c.from.ensures (judged _ c.requires _ (search rules))

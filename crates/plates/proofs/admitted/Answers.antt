@@ -3,13 +3,13 @@ use native.Mathlib.Omega.{arith}
 use Rattle.plates.proofs.admitted.Goals as goal
 
 pub loop-i-init : goal.loop-i-init
-loop-i-init c = (omega arith, leads_start _ _)
+loop-i-init c = leads_start _ _
 
 pub returns-then-not-admits : goal.returns-then-not-admits
-returns-then-not-admits c = leads_off _ _ _ c.loop-i.invariant.1 (omega arith) _ c.admits.ensures (c.if-not-admits.true)
+returns-then-not-admits c = leads_off _ _ _ c.loop-i.invariant (omega arith) _ c.admits.ensures c.if-not-admits.true
 
 pub loop-i-preserved : goal.loop-i-preserved
-loop-i-preserved c = (omega arith, leads_on _ _ _ c.loop-i.invariant.1 (omega arith) _ c.admits.ensures (c.if-not-admits.false))
+loop-i-preserved c = leads_on _ _ _ c.loop-i.invariant (omega arith) _ c.admits.ensures c.if-not-admits.false
 
 pub returns : goal.returns
-returns c = leads_end _ _ _ c.loop-i.invariant.1 (omega arith) (omega arith)
+returns c = omega (arith, leads_end _ _ _ c.loop-i.invariant (omega arith) (omega arith))
