@@ -1,7 +1,7 @@
 -- The footer as the code lends it, and as it writes it. Assumes nothing.
 use mathlib.Core.Path.{◌≡◌, ◌∙◌}
 use mathlib.Core.List.{List}
-use Prim.Native.Nat.{ℕ, ◌+◌, ◌-◌, ◌≤◌, ◌<◌}
+use Prim.Native.Nat.{ℕ, ◌+◌, ◌-◌, ◌≤◌}
 use native.Mathlib.Omega.{arith}
 use lib.ListN.{length, take, drop, length-drop}
 use lib.Seq.{take_all}
@@ -16,10 +16,6 @@ use Rattle.sizes.specs.Sizes.{footer_length}
 use Rattle.frames.specs.Frames.{foot}
 
 module _ (h : List ℕ) where
-  pub footer_short : length h < footer_length → take (length h - 0) (drop 0 h) ≡ footer h
-  unfolding footer
-  footer_short l = let e : length h - footer_length ≡ 0 = omega arith in rw e (take_all (length h - 0) h (omega arith))
-
   pub footer_lent : take (length h - (length h - footer_length)) (drop (length h - footer_length) h) ≡ footer h
   unfolding footer
   footer_lent = take_all (length h - (length h - footer_length)) (drop (length h - footer_length) h) (rw length-drop (omega arith))

@@ -1,4 +1,4 @@
-// The form of the HGV's header (stop 26). Every public function takes a file of any length.
+//! The form of the HGV's header (stop 26). Every public function takes a file of any length.
 #![tactic(auto)]
 
 pub mod columns;
@@ -12,30 +12,32 @@ ghost use Rattle.sequences.specs.Sequence.{sequence};
 ghost use Rattle.header.specs.Header.{sender, list_sequence, creation, previous_holds};
 ghost use Rattle.header.specs.Promises.{Sender, ListSequence, HasHeader};
 
-pub fn sender<'a>(h: &'a [u8]) -> &'a [u8]
+use texts::Columns;
+
+/// The list's sender: six digits, where the header is in form.
+pub fn sender(h: &[u8]) -> &[u8]
     ensures { Sender h.now result.now }
 {
-    texts::field(h, columns::SENDER_FROM, columns::SENDER_TO)
+    columns::SENDER.of(h)
 }
 
-pub fn list_sequence<'a>(h: &'a [u8]) -> &'a [u8]
+/// The list's own sequence, 19 bytes.
+pub fn list_sequence(h: &[u8]) -> &[u8]
     ensures { ListSequence h.now result.now }
 {
-    texts::field(h, columns::SEQUENCE_FROM, columns::SEQUENCE_TO)
+    columns::SEQUENCE.of(h)
 }
 
-fn has_digits(s: &[u8], from: usize, to: usize, n: usize) -> bool
-    requires { (1 ≤ from) × (from ≤ to) }
-    ensures { result ≡ run digit n (field from to s.now) }
+fn has_digits(s: &[u8], at: Columns, n: usize) -> bool
+    ensures { result ≡ run digit n (field at.from at.to s.now) }
 {
-    fields::is_digits(texts::field(s, from, to), n)
+    fields::is_digits(at.of(s), n)
 }
 
-fn has_zeros(s: &[u8], from: usize, to: usize, n: usize) -> bool
-    requires { (1 ≤ from) × (from ≤ to) }
-    ensures { result ≡ run zero_digit n (field from to s.now) }
+fn has_zeros(s: &[u8], at: Columns, n: usize) -> bool
+    ensures { result ≡ run zero_digit n (field at.from at.to s.now) }
 {
-    fields::is_zeros(texts::field(s, from, to), n)
+    fields::is_zeros(at.of(s), n)
 }
 
 fn has_sequence(h: &[u8]) -> bool
@@ -44,31 +46,35 @@ fn has_sequence(h: &[u8]) -> bool
     sequences::is_sequence(list_sequence(h), sender(h))
 }
 
+#[tactic(auto, unfolding(crate::specs::Header::previous_holds))]
 fn has_previous(h: &[u8]) -> bool
     ensures { result ≡ previous_holds h.now }
 {
-    let f = texts::field(h, columns::PREVIOUS_FROM, columns::PREVIOUS_TO);
+    let f = columns::PREVIOUS.of(h);
     let from = sender(h);
-    sequences::is_sequence(f, from) | texts::same(f, b"HGV0000000000000000")
+    sequences::is_sequence(f, from) || texts::same(f, b"HGV0000000000000000")
 }
 
 fn has_creation(h: &[u8]) -> bool
     ensures { result ≡ real_time (creation h.now) }
 {
-    times::is_real_time(texts::field(h, columns::CREATION_FROM, columns::CREATION_TO))
+    times::is_real_time(columns::CREATION.of(h))
 }
 
+/// Is each field of the header in form: `0`, sender, receiver, both sequences, zeros, count, creation, zeros, LF. The
+/// version is not asked here.
+#[tactic(auto, unfolding(crate::specs::Header::header_holds))]
 pub fn has_header(h: &[u8]) -> bool
     ensures { HasHeader h.now result }
 {
-    texts::has_text(h, columns::HEADER_TYPE, columns::HEADER_TYPE, b"0")
-        & has_digits(h, columns::SENDER_FROM, columns::SENDER_TO, 6)
-        & has_digits(h, columns::RECEIVER_FROM, columns::RECEIVER_TO, 6)
-        & has_sequence(h)
-        & has_previous(h)
-        & has_zeros(h, columns::ZEROS_FROM, columns::ZEROS_TO, 14)
-        & has_digits(h, columns::COUNT_FROM, columns::COUNT_TO, 15)
-        & has_creation(h)
-        & has_zeros(h, columns::FILLER_FROM, columns::FILLER_TO, 27)
-        & texts::has_text(h, columns::HEADER_END, columns::HEADER_END, b"\n")
+    columns::HEADER_TYPE.has(h, b"0")
+        && has_digits(h, columns::SENDER, 6)
+        && has_digits(h, columns::RECEIVER, 6)
+        && has_sequence(h)
+        && has_previous(h)
+        && has_zeros(h, columns::ZEROS, 14)
+        && has_digits(h, columns::COUNT, 15)
+        && has_creation(h)
+        && has_zeros(h, columns::FILLER, 27)
+        && columns::HEADER_END.has(h, b"\n")
 }
