@@ -1,11 +1,14 @@
 -- The lookups by PAN, and by plate, nationality and time: the number that each answers, the place of
 -- its record, and the slot. Assumes nothing.
-use Rattle.std.specs.Prelude.{ℕ, Bool, not, cond, ◌&&◌, List, [], ◌∷◌, eqb, ltb, length, get_or}
+use Rattle.std.specs.Prelude.{ℕ, Bool, not, cond, ◌&&◌, Result, Ok, Err, List, [], ◌∷◌, eqb, ltb, length, get_or}
+use Rattle.std.specs.Borrow.{Bor}
 use Rattle.theory.specs.First.{Rule, ◌if◌, choose, first}
 use Rattle.theory.specs.Same.{eqs}
 use Rattle.theory.specs.Walk.{some}
 use Rattle.theory.specs.Keep.{sift}
 use Rattle.theory.specs.Place.{place}
+use Rattle.rules.specs.declared.refusal.Refusal.{Refusal}
+use Rattle.rules.specs.Numbers.{refusal_number}
 use Rattle.times.specs.Time.{real_time}
 use Rattle.pans.specs.Pan.{pan}
 use Rattle.plates.specs.Plate.{plate, nationality}
@@ -14,7 +17,21 @@ use Rattle.lines.specs.End.{active}
 use Rattle.slots.specs.Slots.{records}
 use Rattle.slots.specs.Search.{holds_pan, place_of}
 use Rattle.register.specs.Register.{in_order}
-use Rattle.lookups.specs.declared.Found.{Found}
+
+-- what a lookup found: 0 or its number, and the place of the record
+pub record Found : Type 0 where
+  pub number : ℕ
+  pub place : ℕ
+
+-- as the code answers it: a refusal has the place 0
+abbrev pub told : Result ℕ Refusal → Found
+told (Ok i) = record { number = 0; place = i }
+told (Err e) = record { number = refusal_number e; place = 0 }
+
+-- the slot as the code lends it: nothing at a refusal
+abbrev pub lent : Result (Bor (List ℕ)) Refusal → List ℕ
+lent (Ok s) = s.now
+lent (Err e) = []
 
 -- a refusal answers with an empty part
 unfoldable pub unless_refused : ℕ → List ℕ → List ℕ

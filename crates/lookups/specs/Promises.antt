@@ -1,7 +1,6 @@
 -- What each public function of this crate promises. Assumes nothing.
 use Rattle.std.specs.Prelude.{◌≡◌, List, ℕ}
-use Rattle.lookups.specs.declared.Found.{Found}
-use Rattle.lookups.specs.Lookup.{found_at, pan_number, pan_place, pan_slot, plate_number, plate_place, plate_slot}
+use Rattle.lookups.specs.Lookup.{Found, found_at, pan_number, pan_place, pan_slot, plate_number, plate_place, plate_slot}
 
 -- the number, and the place of the record
 abbrev pub FindByPan : List ℕ → List ℕ → Found → Type 0

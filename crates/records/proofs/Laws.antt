@@ -1,14 +1,11 @@
 -- A record and its stamp written field by field, into a slot and into a slot of a register. Assumes nothing.
 use mathlib.Core.Path.{◌≡◌, refl, sym, ap, ◌∙◌}
-use mathlib.Core.Bool.{Bool, true, false, ◌&&◌}
 use mathlib.Core.List.{List, [], ◌++◌, append-nil}
 use Prim.Native.Nat.{ℕ, ◌+◌, ◌-◌, ◌*◌, ◌≤◌, ◌<◌}
 use native.Mathlib.Omega.{arith}
-use lib.Dec.{eqb, leb}
 use lib.ListN.{length, take, drop, length-append, length-drop}
 use lib.Seq.{take_at, drop-length}
-use borrow.Author.Tests.{eqb-true, leb-true, lt-ltb, le-ltb}
-use Rattle.theory.specs.laws.Truth.{and_split}
+use borrow.Author.Tests.{lt-ltb, le-ltb}
 use Rattle.theory.specs.Text.{bytes}
 use Rattle.theory.specs.Parts.{part_at}
 use Rattle.theory.specs.laws.Parts.{part_is}
@@ -23,7 +20,7 @@ use Rattle.lines.specs.End.{end_of, record_of}
 use Rattle.stamps.specs.Stamp.{reception_in}
 use Rattle.slots.specs.Slots.{slots_in}
 use Rattle.records.specs.laws.Written.{length_end}
-use Rattle.records.specs.Slot.{line_least, slot_of, fits, written, put_record}
+use Rattle.records.specs.Slot.{line_least, slot_of, written, put_record}
 
 -- a field of a line, as its reader has it
 pub wide : (from to : ℕ) (l f : List ℕ) → f ≡ field from to l → line_least ≤ length l → 1 ≤ from → to ≤ line_least → length f ≡ to + 1 - from
@@ -61,26 +58,6 @@ slot_written s l reception s₀ r s₁ n m er k e e₁ =
     e₁ ∙ rw (whole, drop-length x, take_at r (drop slot_end s₀) slot_end k, append-nil s, e, er)
 
 -- ---- a slot, and a slot of a register
-
-module _ (s l slot : List ℕ) where
-  -- what the writer asks of the three
-  abbrev asked : Bool
-  asked = (eqb (length slot) slot_length && leb line_least (length l)) && eqb (length s) stamp_length
-
-  pub unwritten : asked ≡ false → slot ≡ written s l slot
-  unfolding written fits
-  unwritten h = rw h
-
-  module _ (h : asked ≡ true) where
-    pub fitting : (length slot ≡ slot_length) × ((line_least ≤ length l) × (length s ≡ stamp_length))
-    fitting =
-        let p = and_split (eqb (length slot) slot_length && leb line_least (length l)) (eqb (length s) stamp_length) h in
-        let q = and_split (eqb (length slot) slot_length) (leb line_least (length l)) p.0 in
-        (eqb-true (length slot) slot_length q.0, (leb-true line_least (length l) q.1, eqb-true (length s) stamp_length p.1))
-
-    pub filled : (x : List ℕ) → x ≡ slot_of s l → x ≡ written s l slot
-    unfolding written fits
-    filled x e = e ∙ rw h
 
 module _ (i : ℕ) (s l b : List ℕ) where
   pub no_slot : slots_in b ≤ i → b ≡ put_record i s l b

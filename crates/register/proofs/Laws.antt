@@ -1,50 +1,45 @@
--- What the walks over the slots need. Assumes nothing.
-use mathlib.Core.Path.{◌≡◌, ◌∙◌}
+-- What is asked of a register, as the code asks it. Assumes nothing.
+use mathlib.Core.Path.{◌≡◌, refl, ◌∙◌}
 use mathlib.Core.Bool.{Bool, true, false, ◌&&◌}
 use mathlib.Core.List.{List, map}
-use Prim.Native.Nat.{ℕ, ◌-◌, ◌*◌, ◌%◌, ◌≤◌}
+use Prim.Native.Nat.{ℕ, ◌%◌, ◌≤◌}
+use Rattle.std.specs.List.{list_all}
 use native.Mathlib.Omega.{arith}
-use lib.Dec.{eqb, leb}
-use lib.ListN.{length, take, drop, length-drop}
 use borrow.Author.Tests.{leb-true}
+use lib.Dec.{eqb, leb}
+use lib.ListN.{length, drop}
 use Rattle.theory.specs.laws.Truth.{and_right}
-use Rattle.theory.specs.Parts.{chop}
-use Rattle.theory.specs.laws.Parts.{parts_from, parts_start, length_chop}
-use Rattle.theory.specs.laws.Place.{drop_chop}
-use Rattle.theory.specs.Walk.{each}
+use Rattle.theory.specs.laws.Words.{each_is}
 use Rattle.theory.specs.Distinct.{distinct}
 use Rattle.sizes.specs.Sizes.{slot_length, slots_most}
 use Rattle.columns.specs.Columns.{pan_of}
-use Rattle.slots.specs.Slots.{slots_in, slots_of, records, used_in}
-use Rattle.slots.specs.laws.Slots.{used_most, records_chop, slots_front}
-use Rattle.register.specs.Register.{used_form, free_form, in_order}
-
--- the slots from a place on, as the code lends them
-pub between_is : (n : ℕ) (b : List ℕ) (from : ℕ) → (from ≤ n) × (n * slot_length ≤ length b)
-    → slots_of (take (n * slot_length - from * slot_length) (drop (from * slot_length) b)) ≡ parts_from slot_length n from b
-unfolding parts_from
-between_is n b from h =
-    let e : n * slot_length - from * slot_length ≡ (n - from) * slot_length = omega (arith, h.0) in
-    rw e (slots_front (drop (from * slot_length) b) (n - from) (simp length-drop (omega (arith, h.0, h.1))))
-
--- ---- in order
+use Rattle.keys.specs.declared.keyed.KeyedParts.{KeyedParts}
+use Rattle.apart.specs.Promises.{AllApart}
+use Rattle.slots.specs.Slots.{slots_in, slots_of, records, used_in, used_part}
+use Rattle.slots.specs.Promises.{ByPan}
+use Rattle.slots.specs.laws.Slots.{used_most, used_slots, slots_used}
+use Rattle.register.specs.Register.{whole, used_form, free_form, in_order}
 
 module _ (b : List ℕ) where
-  abbrev sized : Bool
-  sized = eqb (length b % slot_length) 0 && leb (slots_in b) slots_most
-
-  pub unsized : sized ≡ false → in_order b ≡ false
+  pub not_whole : whole b ≡ false → in_order b ≡ false
   unfolding in_order
-  unsized h = rw h
+  not_whole h = rw h
 
-  -- no more are used than there may be
-  pub used_few : (u : ℕ) → u ≡ used_in b → sized ≡ true → u ≤ slots_most
-  used_few u m t = omega (arith, used_most b, leb-true (slots_in b) slots_most (and_right (eqb (length b % slot_length) 0) (leb (slots_in b) slots_most) t))
+  few : whole b ≡ true → used_in b ≤ slots_most
+  few h = omega (arith, used_most b, leb-true (slots_in b) slots_most (and_right (eqb (length b % slot_length) 0) (leb (slots_in b) slots_most) h))
 
-  -- u slots are used: `front` holds them, and `rest` those behind them
-  pub order_is : (u : ℕ) → u ≡ used_in b → sized ≡ true → (front rest : List ℕ) → slots_of front ≡ parts_from slot_length u 0 b → slots_of rest ≡ parts_from slot_length (slots_in b) u b
-      → (s f d : Bool) → s ≡ each used_form (slots_of front) → f ≡ each free_form (slots_of rest) → d ≡ distinct (map pan_of (chop slot_length u b)) → (s && f) && d ≡ in_order b
-  unfolding in_order slots_of
-  order_is u m t front rest p q s f d e₁ e₂ e₃ =
-      let r : records b ≡ chop slot_length u b = records_chop b ∙ rw m in
-      rw (r, length_chop slot_length u b, drop_chop slot_length (slots_in b) u b (omega (arith, used_most b)), t, e₁, e₂, e₃, p, q, parts_start slot_length u b)
+  pub asked : whole b ≡ true
+      → in_order b ≡ list_all used_form (records b) && list_all free_form (drop (used_in b) (slots_of b)) && distinct (map pan_of (records b))
+  unfolding in_order
+  asked h = rw (h, each_is used_form (records b), each_is free_form (drop (used_in b) (slots_of b))) refl
+
+  -- u is the used part
+  module _ (u : List ℕ) (e : u ≡ used_part b) (parts : KeyedParts) (p : ByPan u parts) where
+    -- it has no more slots than there may be
+    pub used_few : whole b ≡ true → parts.count ≤ slots_most
+    used_few h = rw (p.2, e, used_slots b) (few h)
+
+    -- and they are the records
+    pub apart_asked : (r : Bool) → AllApart parts.block.now parts.keys parts.count r → r ≡ distinct (map pan_of (records b))
+    unfolding slots_of
+    apart_asked r a = a ∙ rw (p.0, p.1, p.2, e, slots_used b)

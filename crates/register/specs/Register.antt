@@ -22,6 +22,10 @@ used_form s = marked s && record_holds s && eqs (field slot_end slot_end s) line
 unfoldable pub free_form : List ℕ → Bool
 free_form s = run zero_byte slot_length s
 
+-- whole slots within the limit
+abbrev pub whole : List ℕ → Bool
+whole b = eqb (length b % slot_length) 0 && leb (slots_in b) slots_most
+
 -- in order: whole slots within the limit, used slots first, all PANs different, the rules hold in each
 unfoldable pub in_order : List ℕ → Bool
 in_order b =

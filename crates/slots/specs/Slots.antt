@@ -6,6 +6,7 @@ use Rattle.theory.specs.Parts.{chop}
 use Rattle.theory.specs.Pad.{front}
 use Rattle.sizes.specs.Sizes.{slot_length}
 use Rattle.texts.specs.Field.{field}
+use Rattle.keys.specs.declared.Keys.{Keys}
 
 -- the number of slots
 abbrev pub slots_in : List ℕ → ℕ
@@ -30,3 +31,7 @@ used_in b = length (records b)
 -- the used slots, one behind the other
 unfoldable pub used_part : List ℕ → List ℕ
 used_part b = take (used_in b * slot_length) b
+
+-- where the PAN stands in a slot
+abbrev pub pans : Keys
+pans = record { width = slot_length; from = 14; to = 32 }

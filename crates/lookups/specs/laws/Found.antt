@@ -36,9 +36,8 @@ use Rattle.slots.specs.laws.Slots.{records_chop, used_fits}
 use Rattle.slots.specs.Search.{holds_pan, place_of}
 use Rattle.register.specs.Register.{in_order}
 use Rattle.register.specs.laws.Register.{ordered}
-use Rattle.lookups.specs.declared.Found.{Found}
 use Rattle.lookups.specs.Promises.{ByPan, ByPlate}
-use Rattle.lookups.specs.Lookup.{unless_refused, found_at, pan_rules, pan_number, pan_place, pan_slot, fits_plate, fitting_in, plate_rules, plate_number, plate_place, plate_slot}
+use Rattle.lookups.specs.Lookup.{Found, unless_refused, found_at, pan_rules, pan_number, pan_place, pan_slot, fits_plate, fitting_in, plate_rules, plate_number, plate_place, plate_slot}
 
 -- ---- the place of a record that passes: it lies within the register, and its part is the record
 

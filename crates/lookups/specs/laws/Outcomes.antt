@@ -1,7 +1,7 @@
 -- Two outcomes of one call are one, for each public function of this crate. Assumes nothing.
 use Rattle.std.specs.Prelude.{◌≡◌, List, ℕ}
 use Rattle.theory.specs.laws.Outcome.{one_outcome}
-use Rattle.lookups.specs.declared.Found.{Found}
+use Rattle.lookups.specs.Lookup.{Found}
 use Rattle.lookups.specs.Promises.{FindByPan, ByPan, FindByPlate, ByPlate}
 
 pub find_by_pan_one : (b key : List ℕ) (r s : Found) → FindByPan b key r → FindByPan b key s → r ≡ s

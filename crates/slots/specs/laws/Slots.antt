@@ -1,15 +1,31 @@
 -- The records of a block are its first slots, and the used part is their bytes. Assumes nothing.
-use Rattle.std.specs.Prelude.{◌≡◌, not, List, ℕ, ◌*◌, ◌≤◌, length, take}
-use Rattle.std.proofs.Common.{sym, ◌∙◌, arith, mul-le-mul_right, div-mul-le_self, mul-div_cancel, length-take-le}
+use Rattle.std.specs.Prelude.{◌≡◌, Bool, true, false, not, cond, List, [], ◌∷◌, ℕ, ◌+◌, ◌*◌, ◌≤◌, length, take}
+use Rattle.std.specs.List.{prefix_len}
+use Rattle.std.proofs.Common.{refl, sym, ◌∙◌, arith, mul-le-mul_right, div-mul-le_self, mul-div_cancel, length-take-le}
 use Rattle.theory.specs.Parts.{chop}
 use Rattle.theory.specs.laws.Parts.{length_chop}
 use Rattle.theory.specs.laws.Join.{chop_take}
 use Rattle.theory.specs.Place.{place}
-use Rattle.theory.specs.laws.Place.{place_most, length_front_place, front_chop}
+use Rattle.theory.specs.laws.Place.{place_most, length_front_place, front_chop, take_chop}
+use Rattle.theory.specs.Pad.{front, front_on}
 use Rattle.sizes.specs.Sizes.{slot_length}
 use Rattle.slots.specs.Slots.{slots_in, slots_of, marked, records, used_in, used_part}
 
+front_prefix : (q : List ℕ → Bool) (xs : List (List ℕ)) → length (front q xs) ≡ prefix_len q xs
+unfolding front front_on
+front_prefix q [] = refl
+front_prefix q (x ∷ xs) = rw (← front_prefix q xs) (on (q x))
+  where
+    on : (t : Bool) → length (front_on t x (front q xs)) ≡ cond t (1 + length (front q xs)) 0
+    on true = omega arith
+    on false = refl
+
 module _ (b : List ℕ) where
+  -- the records are the longest front that is marked
+  pub used_prefix : prefix_len marked (slots_of b) ≡ used_in b
+  unfolding records
+  used_prefix = sym (front_prefix marked (slots_of b))
+
   pub used_place : used_in b ≡ place (λ s. not (marked s)) (chop slot_length (slots_in b) b)
   unfolding records slots_of
   used_place = length_front_place marked (chop slot_length (slots_in b) b)
@@ -21,6 +37,14 @@ module _ (b : List ℕ) where
   pub records_chop : records b ≡ chop slot_length (used_in b) b
   unfolding records slots_of
   records_chop = front_chop marked slot_length (slots_in b) b ∙ rw used_place
+
+  pub records_take : take (used_in b) (slots_of b) ≡ records b
+  unfolding slots_of
+  records_take = take_chop slot_length (slots_in b) (used_in b) b used_most ∙ sym records_chop
+
+  pub used_among : used_in b ≤ length (slots_of b)
+  unfolding slots_of
+  used_among = rw (length_chop slot_length (slots_in b) b) used_most
 
   -- and lie within the block
   pub used_fits : used_in b * slot_length ≤ length b
