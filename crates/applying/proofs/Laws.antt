@@ -39,14 +39,6 @@ none_gone b h mode who r n u = rw (ne_eqb mode full n) (record { holds = as_it_i
 
 -- ---- what is told of the lines, among the records of the register that was prepared
 
-pub told_all : (mode used : ℕ) → (mode ≡ full → ⊥) → used ≡ cond (is_full mode) 0 used
-unfolding is_full
-told_all mode used n = rw (ne_eqb mode full n)
-
-pub told_none : (mode used : ℕ) → mode ≡ full → 0 ≡ cond (is_full mode) 0 used
-unfolding is_full
-told_none mode used m = rw (eq-eqb mode full m)
-
 module _ (R : List (List ℕ)) (pan : List ℕ) (f : ℕ) where
   stands_found : (n : ℕ) → n ≡ length R → f ≡ place_of pan R → Stands n R pan f
   unfolding place_of

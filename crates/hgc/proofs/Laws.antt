@@ -9,7 +9,7 @@ use lib.ListN.{length, drop, get_or, length-append}
 use Rattle.theory.specs.Text.{bytes}
 use Rattle.theory.specs.Keep.{onto}
 use Rattle.theory.specs.Parts.{chop, part_at}
-use Rattle.theory.specs.laws.Parts.{length_chop, length_part, part_fits}
+use Rattle.theory.specs.laws.Parts.{length_chop, length_part}
 use Rattle.theory.specs.Pick.{good, bad}
 use Rattle.theory.specs.Tally.{tally}
 use Rattle.theory.specs.Join.{flat}
@@ -23,8 +23,8 @@ use Rattle.numbers.specs.Number.{decimal, zeros}
 use Rattle.numbers.specs.laws.Number.{length_decimal, length_zeros}
 use Rattle.columns.specs.Columns.{text}
 use Rattle.hgv.specs.Layout.{width_of, lines_in, length_holds, body, lines_of}
-use Rattle.hgv.specs.laws.Layout.{width_has, lines_room, each_line, length_least}
-use Rattle.sizes.specs.Sizes.{header_length, line_most, lines_most, hgc_header_length}
+use Rattle.hgv.specs.laws.Layout.{width_has, each_line, length_least}
+use Rattle.sizes.specs.Sizes.{header_length, hgc_header_length}
 use Rattle.header.specs.Header.{sender, list_sequence}
 use Rattle.frames.specs.Frames.{foot}
 use Rattle.frames.specs.laws.Frames.{length_foot}
@@ -127,11 +127,7 @@ module _ (w : ℕ) (vs b o : List ℕ) where
     unfolding Answered
     answered_end n h k = let e : i ≡ n = omega arith in rw e at a
 
-    pub answered_length : length s ≡ length o
-    unfolding Answered
-    answered_length = laid_length 111 q _ o s a
-
-    module _ (h : i < length vs) (m : length vs * w ≤ length b) where
+    module _ (h : i < length vs) (m : i * w + w ≤ length b) where
       next_said : flat (answers w vs (chop w (i + 1) b)) ≡ flat (answers w vs (chop w i b)) ++ said w (get_or vs i 0) (part_at w i b)
       unfolding said
       next_said =
@@ -140,14 +136,14 @@ module _ (w : ℕ) (vs b o : List ℕ) where
 
       module _ (l : List ℕ) (p : l ≡ part_at w i b) (wide : 3 ≤ w) where
         pub line_long : Holding w l
-        line_long = let e : length l ≡ w = ap length p ∙ length_part w i b (part_fits w (length vs) i (length b) m h) in (wide, omega arith)
+        line_long = let e : length l ≡ w = ap length p ∙ length_part w i b m in (wide, omega arith)
 
         pub answered_room : hgc_header_length + tally bad vs * answer_length w ≤ length o → (1 ≤ q) × ((q - 1 + length (said w (get_or vs i 0) l) ≤ length s) × Holding w l)
         unfolding Answered
         answered_room r =
             let done : List ℕ = flat (answers w vs (chop w i b)) in
             let more : List (List ℕ) = answers w vs (chop w (i + 1) b) in
-            let m' : length (flat more) ≡ length more * answer_length w = length_answers w wide vs (each_chop w (i + 1) b (omega (arith, part_fits w (length vs) i (length b) m h))) in
+            let m' : length (flat more) ≡ length more * answer_length w = length_answers w wide vs (each_chop w (i + 1) b (omega (arith, m))) in
             let k : length more * answer_length w ≤ tally bad vs * answer_length w = mul-le-mul_right (answer_length w) (answers_most w vs (chop w (i + 1) b)) in
             let e : length (flat more) ≡ length done + length (said w (get_or vs i 0) l) = ap length next_said ∙ length-append done (said w (get_or vs i 0) (part_at w i b)) ∙ rw p in
             let n : length s ≡ length o = laid_length 111 q done o s a in
@@ -157,18 +153,7 @@ module _ (w : ℕ) (vs b o : List ℕ) where
         unfolding Answered
         answered_turn s' q' d = rw next_said (laid_join 111 q q' _ _ o s s' a (rw p at d))
 
--- no more than all lines of a file can have
-pub most_answers : (w n : ℕ) → (w ≤ line_most) × (n ≤ lines_most) → n * answer_length w ≤ lines_most * answer_length line_most
-most_answers w n (a, b) = omega (arith, mul-le-mul_right (answer_length w) b)
-
 -- ---- the whole; s₁ to s₄ are the block after each part, and q is the position of the footer
-
--- m bytes are there for them
-pub answers_fit : (h vs b : List ℕ) (w rejected m : ℕ) → b ≡ body h → w ≡ width_of h → length vs ≡ lines_in h → rejected ≡ tally bad vs → confirmation_length (width_of h) rejected ≤ m
-    → (k : ℕ) → k ≡ m → (3 ≤ w) × ((length vs * w ≤ length b) × (hgc_header_length + tally bad vs * answer_length w ≤ k))
-answers_fit h vs b w rejected m e d n er room k ek =
-    let r : confirmation_length (width_of h) (tally bad vs) ≤ m = rw er at room in
-    rw (e, d, n) (width_has h 3 (omega arith), (lines_room h, omega arith))
 
 module _ (h vs b s₂ s₃ : List ℕ) (w q : ℕ) (eb : b ≡ body h) (ew : w ≡ width_of h) (v : Laid 111 q (flat (answers w vs (chop w (length vs) b))) s₂ s₃) (each : length vs ≡ lines_in h) where
   lines_laid : Laid 111 q (flat (answers (width_of h) vs (lines_of h))) s₂ s₃

@@ -1,45 +1,29 @@
-// The columns of the confirmation: the first and the last position of each, counted from 1 as in the document's tables.
+//! The columns of the confirmation: the first and the last position of each, counted from 1 as in the document's tables.
+
+use texts::Columns;
 
 // The header.
-pub const HEADER_TYPE: usize = 1;
+pub const HEADER_TYPE: Columns = Columns { from: 1, to: 1 };
 
-pub const SENDER_FROM: usize = 2;
+pub const SENDER: Columns = Columns { from: 2, to: 7 };
 
-pub const SENDER_TO: usize = 7;
+pub const RECEIVER: Columns = Columns { from: 8, to: 13 };
 
-pub const RECEIVER_FROM: usize = 8;
+pub const SEQUENCE: Columns = Columns { from: 14, to: 32 };
 
-pub const RECEIVER_TO: usize = 13;
+pub const RECEPTION: Columns = Columns { from: 33, to: 46 };
 
-pub const SEQUENCE_FROM: usize = 14;
+pub const TAKEN: Columns = Columns { from: 47, to: 61 };
 
-pub const SEQUENCE_TO: usize = 32;
+pub const REJECTED: Columns = Columns { from: 62, to: 76 };
 
-pub const RECEPTION_FROM: usize = 33;
+pub const VERSION: Columns = Columns { from: 77, to: 82 };
 
-pub const RECEPTION_TO: usize = 46;
+pub const FILLER: Columns = Columns { from: 83, to: 107 };
 
-pub const TAKEN_FROM: usize = 47;
+pub const OUTCOME: Columns = Columns { from: 108, to: 109 };
 
-pub const TAKEN_TO: usize = 61;
-
-pub const REJECTED_FROM: usize = 62;
-
-pub const REJECTED_TO: usize = 76;
-
-pub const VERSION_FROM: usize = 77;
-
-pub const VERSION_TO: usize = 82;
-
-pub const FILLER_FROM: usize = 83;
-
-pub const FILLER_TO: usize = 107;
-
-pub const OUTCOME_FROM: usize = 108;
-
-pub const OUTCOME_TO: usize = 109;
-
-pub const HEADER_END: usize = 110;
+pub const HEADER_END: Columns = Columns { from: 110, to: 110 };
 
 // A line; its text stands where it stood in the HGV, its reason from the position on that the HGV's line ends at, and LF behind.
-pub const LINE_TYPE: usize = 1;
+pub const LINE_TYPE: Columns = Columns { from: 1, to: 1 };

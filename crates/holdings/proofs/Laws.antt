@@ -1,45 +1,60 @@
 -- What the functions of this crate cite. Assumes nothing.
-use mathlib.Core.Path.{◌≡◌, refl, ◌∙◌}
+use mathlib.Core.Path.{◌≡◌, refl, sym, ◌∙◌}
 use mathlib.Core.Bool.{Bool, true, false, ◌&&◌}
 use mathlib.Core.List.{List}
-use Prim.Native.Nat.{ℕ, ◌+◌, ◌-◌, ◌≤◌, ◌<◌}
+use Prim.Native.Nat.{ℕ, zero, suc, ◌+◌, ◌-◌, ◌≤◌, ◌<◌}
 use native.Mathlib.Omega.{arith}
-use lib.ListN.{length}
-use borrow.Author.Tests.{lt-ltb, le-ltb, eq-eqb, ne_eqb}
+use lib.Dec.{eqb, leb}
+use Rattle.std.proofs.lemmas.Bool.Decides.{nat_tests}
+use lib.ListN.{length, get_or}
+use Rattle.theory.specs.laws.Among.{CountAmong, count_among_turn}
+use borrow.Author.Tests.{eq-eqb, ne_eqb}
 use Rattle.theory.specs.Count.{bump}
 use Rattle.theory.specs.Keep.{sift}
 use Rattle.theory.specs.laws.Keep.{sift_counts}
 use Rattle.theory.specs.laws.Parts.{length_chop}
 use Rattle.theory.specs.Pick.{good, pick}
-use Rattle.theory.specs.laws.Pick.{good_no}
 use Rattle.theory.specs.Tally.{tally}
 use Rattle.theory.specs.laws.Tally.{tallies}
-use Rattle.sizes.specs.Sizes.{full, slot_length}
+use Rattle.sizes.specs.Sizes.{full, slot_length, slots_most}
 use Rattle.sizes.specs.Modes.{is_full}
+use Rattle.texts.specs.declared.parts.Parts.{Parts}
+use Rattle.keys.specs.declared.keyed.KeyedParts.{KeyedParts}
+use Rattle.keys.specs.Promises.{KeyedPartsBy}
+use Rattle.finding.specs.Promises.{Places}
 use Rattle.slots.specs.Slots.{slots_in, slots_of, records, used_in, used_part}
+use Rattle.slots.specs.Promises.{ByPan}
 use Rattle.slots.specs.laws.Slots.{used_slots, slots_used}
 use Rattle.slots.specs.Search.{of_actor, count_of}
 use Rattle.holdings.specs.Holdings.{others}
 use Rattle.holdings.specs.Room.{is_behind, used_by}
 use Rattle.holdings.specs.Places.{places_in, places_after}
+use Rattle.holdings.specs.Promises.{FindPlaces}
 
 -- ---- one line
 
-pub line_rejected : (v : ℕ) (t : Bool) → (v ≡ 0 → ⊥) → 0 ≡ bump (good v && t) 0
-unfolding bump
-line_rejected v t h = rw (good_no v h)
+pub good_is : (v : ℕ) → eqb v 0 ≡ good v
+unfolding good
+good_is zero = refl
+good_is (suc v) = ne_eqb (suc v) 0 (λ e. absurd (omega arith))
 
-pub line_held : (v i n : ℕ) → i < n → 0 ≡ bump (good v && is_behind n i) 0
-unfolding bump
-line_held v i n h = rw (lt-ltb i n h) (neither (good v))
+pub new_is : (v slots place : ℕ) → v ≡ 0 → leb slots place ≡ good v && is_behind slots place
+unfolding good
+new_is v slots place e = rw e (behind_is slots place)
   where
-    neither : (g : Bool) → 0 ≡ bump (g && false) 0
-    neither true = refl
-    neither false = refl
+    behind_is : (slots place : ℕ) → leb slots place ≡ is_behind slots place
+    behind_is slots place = grind (arith, nat_tests)
 
-pub line_new : (v i n : ℕ) → v ≡ 0 → n ≤ i → 1 ≡ bump (good v && is_behind n i) 0
-unfolding bump good
-line_new v i n z h = rw (z, le-ltb i n h)
+-- what one line adds to those that count
+pub counted : (q : ℕ → Bool) (vs xs : List ℕ) (i k : ℕ) → CountAmong q vs xs i k → i < length vs → i < length xs
+    → (x : ℕ) → x ≡ get_or xs i 0 → (t : Bool) → t ≡ good (get_or vs i 0) && q x → (m : ℕ) → m ≡ bump t k → CountAmong q vs xs (i + 1) m
+unfolding bump
+counted q vs xs i k c h l x e t f m g =
+    rw (g, sym (bump_zero t k)) (count_among_turn q vs xs i k c h l 0 (bump t 0) (rw f (rw e refl)))
+  where
+    bump_zero : (t : Bool) (k : ℕ) → k + bump t 0 ≡ bump t k
+    bump_zero true k = omega arith
+    bump_zero false k = omega arith
 
 -- ---- all of them
 
@@ -79,9 +94,17 @@ module _ (b held : List ℕ) (e : held ≡ used_part b) where
   unfolding used_by is_full
   incremental_used mode n who vs found k g = rw (g, held_used, ne_eqb mode full n)
 
-  pub incremental_places : (mode : ℕ) → (mode ≡ full → ⊥) → (width : ℕ) (lines vs before found : List ℕ) → found ≡ places_in (slots_of held) width lines vs → found ≡ places_after mode (records b) width lines vs before
-  unfolding places_after is_full
-  incremental_places mode n width lines vs before found g = g ∙ rw (ne_eqb mode full n, held_slots)
+  -- parts are the slots by their PANs, and sought the lines of this width by theirs
+  module _ (parts : KeyedParts) (p : ByPan held parts) where
+    pub held_few : used_in b ≤ slots_most → parts.count ≤ slots_most
+    held_few h = rw (p.2, held_used) h
+
+    pub incremental_places : (mode : ℕ) → (mode ≡ full → ⊥) → (lines : Parts) (sought : KeyedParts) → KeyedPartsBy lines (record { from = 14; to = 32; forward = (omega arith, omega arith) }) sought
+        → (vs before found : List ℕ) → length before ≡ length vs → Places parts.block.now parts.keys parts.count sought.block.now sought.keys vs before found
+        → FindPlaces mode b lines.block.now lines.width vs before found
+    unfolding places_after places_in is_full slots_of
+    incremental_places mode n lines sought q vs before found l g =
+        g ∙ rw (p.0, p.1, p.2, q.0, q.1, l, ne_eqb mode full n, ← held_slots) refl
 
 pub full_places : (mode : ℕ) → mode ≡ full → (R : List (List ℕ)) (width : ℕ) (lines vs found : List ℕ) → found ≡ places_after mode R width lines vs found
 unfolding places_after is_full

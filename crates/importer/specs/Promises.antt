@@ -1,6 +1,6 @@
 -- What the public function of this crate promises. Assumes nothing.
 use Rattle.std.specs.Prelude.{List, ℕ}
-use Rattle.imports.specs.declared.Imported.{Imported}
+use Rattle.imports.specs.Imported.{Imported}
 use Rattle.imports.specs.Handed.{Handed}
 use Rattle.imports.specs.Promises.{ImportJudged}
 

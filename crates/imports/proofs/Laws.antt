@@ -2,7 +2,7 @@
 use mathlib.Core.Path.{◌≡◌, sym, ◌∙◌}
 use mathlib.Core.Bool.{Bool, true}
 use mathlib.Core.List.{List, ◌++◌}
-use Prim.Native.Nat.{ℕ, ◌-◌, ◌*◌, ◌≤◌}
+use Prim.Native.Nat.{ℕ, ◌-◌, ◌≤◌}
 use native.Mathlib.Omega.{arith}
 use lib.Dec.{ltb}
 use lib.ListN.{length, drop}
@@ -20,7 +20,9 @@ use Rattle.sequences.specs.laws.Length.{sequence_length}
 use Rattle.stamps.specs.Stamp.{stamp}
 use Rattle.records.specs.Slot.{slot_of, storable}
 use Rattle.taken.specs.Taken.{taken_in}
+use Rattle.texts.specs.declared.parts.Parts.{Parts}
 use Rattle.hgv.specs.Layout.{width_of, lines_in, length_holds, body}
+use Rattle.hgv.specs.Promises.{Lines}
 use Rattle.slots.specs.Slots.{records, slots_in}
 use Rattle.register.specs.Register.{in_order}
 use Rattle.upkeep.specs.Holds.{Holds}
@@ -34,12 +36,12 @@ use Rattle.applying.specs.Fit.{Fit, Sought}
 use Rattle.hgv.specs.laws.Layout.{is_width}
 use Rattle.times.specs.Seconds.{is_real}
 use Rattle.offsets.specs.Offset.{local_time, reception_holds}
-use Rattle.offsets.specs.Ahead.{ahead_most, offset_of}
-use Rattle.offsets.specs.laws.Shift.{offset_most, received}
+use Rattle.offsets.specs.Ahead.{offset_of}
+use Rattle.offsets.specs.laws.Shift.{received}
 use Rattle.imports.specs.Handed.{Handed}
 use Rattle.imports.specs.Import.{judged, following, shown, confirmed, judged_stops, timed, success, register_written, hgc_written}
 use Rattle.imports.specs.laws.Numbers.{Formed, formed_received, Passed, judged_passed}
-use Rattle.imports.specs.laws.Accepted.{Accepted, verdict_each, lines_there, verdicts_most, lines_are, lines_storable, lines_apart, lines_free, confirmed_length}
+use Rattle.imports.specs.laws.Accepted.{Accepted, verdict_each, verdicts_most, lines_are, lines_storable, lines_apart, lines_free, confirmed_length}
 use Rattle.imports.proofs.Room.{lines_made, following_used}
 
 -- vs are the verdicts, and r of them reject their line
@@ -72,8 +74,8 @@ module _ (f : Handed) (register vs : List ℕ) (r : ℕ)
 -- ---- what is confirmed
 
 -- the local time can be written, where the offset is so many minutes ahead
-pub local_fits : (ahead : ℕ) (t : List ℕ) → reception_holds (offset_of ahead) t ≡ true → (ahead ≤ ahead_most) × (is_real (local_time (offset_of ahead) t) ≡ true)
-local_fits ahead t h = let r = received (offset_of ahead) t h in (offset_most ahead r.offset, r.shown)
+pub local_fits : (ahead : ℕ) (t : List ℕ) → reception_holds (offset_of ahead) t ≡ true → is_real (local_time (offset_of ahead) t) ≡ true
+local_fits ahead t h = (received (offset_of ahead) t h).shown
 
 -- ---- what is carried out
 
@@ -81,65 +83,60 @@ module _ (f : Handed) (register vs : List ℕ) (t r : ℕ) (found : List ℕ) (a
   c : Formed f register
   c = a.clear
 
-  -- from, list, ls and w are sender, list sequence, body and width
-  module _ (from list ls : List ℕ) (w : ℕ) (ef : from ≡ sender f.hgv) (es : list ≡ list_sequence f.hgv) (el : ls ≡ body f.hgv) (ew : w ≡ width_of f.hgv) where
-    lines_taken : taken_in w vs ls ≡ taken (judged register f.rows f.hgv) f.hgv
-    lines_taken = rw (el, ew) (lines_are f register c vs a.verdicts)
+  -- from and list are sender and list sequence
+  module _ (from list : List ℕ) (ef : from ≡ sender f.hgv) (es : list ≡ list_sequence f.hgv) (lines : Parts) (el : Lines f.hgv lines) where
+    lines_taken : taken_in lines.width vs lines.block.now ≡ taken (judged register f.rows f.hgv) f.hgv
+    lines_taken = rw (el.0, el.1) (lines_are f register c vs a.verdicts)
 
-    pub apply_fits : (length vs * w ≤ length ls)
-        × ((in_order register ≡ true)
-        × ((length list ≡ list_length)
-        × ((length f.reception ≡ time_length)
-        × (Each (λ l. storable (stamp list f.reception) l ≡ true) (taken_in w vs ls)
-        × (Fit f.mode from (slot_of (stamp list f.reception)) (slots_in register) (records register) (taken_in w vs ls) × Sought f.mode (records register) w ls vs found)))))
+    pub apply_fits : record {
+      lined : length vs ≤ lines.count;
+      ordered : in_order register ≡ true;
+      listed : length list ≡ list_length;
+      received : length f.reception ≡ time_length;
+      kept : Each (λ l. storable (stamp list f.reception) l ≡ true) (taken_in lines.width vs lines.block.now);
+      fit : Fit f.mode from (slot_of (stamp list f.reception)) (slots_in register) (records register) (taken_in lines.width vs lines.block.now);
+      sought : Sought f.mode (records register) lines.width lines.block.now vs found;
+    }
     unfolding following
-    apply_fits = (
-      rw (el, ew) (lines_there f register c vs a.verdicts),
-      (
-        c.ordered,
-        (
-          rw es (sequence_length (sender f.hgv) (list_sequence f.hgv) (header_list f.hgv c.headed)),
-          (
-            real_length f.reception (formed_received f register c),
-            (
-              rw (lines_taken, es) (lines_storable f register c),
-              (
-                rw (lines_taken, ef, es)
-                    record {
-                      made = lines_made f register c;
-                      apart = lines_apart f register c;
-                      free = lines_free f register c;
-                      room = a.slots;
-                    },
-                rw (el, ew) a.sought,
-              ),
-            ),
-          ),
-        ),
-      ),
-    )
+    apply_fits =
+        record {
+          lined = omega (arith, el.2, verdict_each f register c vs a.verdicts);
+          ordered = c.ordered;
+          listed = rw es (sequence_length (sender f.hgv) (list_sequence f.hgv) (header_list f.hgv c.headed));
+          received = real_length f.reception (formed_received f register c);
+          kept = rw (lines_taken, es) (lines_storable f register c);
+          fit =
+              rw (lines_taken, ef, es)
+              record {
+                made = lines_made f register c;
+                apart = lines_apart f register c;
+                free = lines_free f register c;
+                room = a.slots;
+              };
+          sought = rw (el.0, el.1) a.sought;
+        }
 
-    pub applied : (b : List ℕ) → Holds (slots_in register) (holdings f.mode from (slot_of (stamp list f.reception)) (records register) (taken_in w vs ls)) b → b ≡ register_written f register
+    pub applied : (b : List ℕ) → Holds (slots_in register) (holdings f.mode from (slot_of (stamp list f.reception)) (records register) (taken_in lines.width vs lines.block.now)) b → b ≡ register_written f register
     unfolding register_written following
     applied b k = k.bytes ∙ rw (lines_taken, ef, es)
 
-  pub confirm_fits : (timed f ≡ true) × ((length_holds f.hgv ≡ true) × ((length vs ≡ lines_in f.hgv) × ((t ≡ tally good vs) × ((r ≡ tally bad vs) × (confirmation_length (width_of f.hgv) r ≤ length f.hgc)))))
-  confirm_fits = (
-    c.received,
-    (
-      c.sized,
-      (
-        verdict_each f register c vs a.verdicts,
-        (
-          a.taken_are,
-          (
-            a.rejected_are,
-            rw (← confirmed_length f register c vs a.verdicts r a.rejected_are) a.buffer,
-          ),
-        ),
-      ),
-    ),
-  )
+  pub confirm_fits : record {
+    timed : timed f ≡ true;
+    sized : length_holds f.hgv ≡ true;
+    judged : length vs ≡ lines_in f.hgv;
+    counted : t ≡ tally good vs;
+    answered : r ≡ tally bad vs;
+    room : confirmation_length (width_of f.hgv) r ≤ length f.hgc;
+  }
+  confirm_fits =
+      record {
+        timed = c.received;
+        sized = c.sized;
+        judged = verdict_each f register c vs a.verdicts;
+        counted = a.taken_are;
+        answered = a.rejected_are;
+        room = rw (← confirmed_length f register c vs a.verdicts r a.rejected_are) a.buffer;
+      }
 
   pub hgc_is : (g : List ℕ) → g ≡ confirmation (shown f) f.hgv vs ++ drop (length (confirmation (shown f) f.hgv vs)) f.hgc → g ≡ hgc_written f register
   unfolding hgc_written confirmed

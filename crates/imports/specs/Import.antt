@@ -18,7 +18,7 @@ use Rattle.thinness.specs.Thin.{thin}
 use Rattle.holdings.specs.Holdings.{holdings}
 use Rattle.offsets.specs.Offset.{local, reception_holds}
 use Rattle.stops.specs.Stops.{form_stops}
-use Rattle.imports.specs.declared.Imported.{Imported}
+use Rattle.imports.specs.Imported.{Imported}
 use Rattle.imports.specs.Handed.{Handed}
 
 -- the verdicts of the lines of the HGV h, beside the register as it was

@@ -1,4 +1,6 @@
+pub mod Imported
 pub mod Handed
+pub mod Call
 pub mod Import
 pub mod Shown
 pub mod Promises

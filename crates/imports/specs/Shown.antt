@@ -10,7 +10,7 @@ use Rattle.slots.specs.Slots.{slots_in, records}
 use Rattle.hgc.specs.Confirmation.{confirmation}
 use Rattle.thinness.specs.Thin.{thin}
 use Rattle.stops.specs.Stops.{form_stops}
-use Rattle.imports.specs.declared.Imported.{Imported}
+use Rattle.imports.specs.Imported.{Imported}
 use Rattle.imports.specs.Handed.{Handed}
 use Rattle.imports.specs.Import.{judged, following, refusal, register_written}
 

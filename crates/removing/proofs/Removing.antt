@@ -1,22 +1,20 @@
 -- Records marked and removed. Assumes nothing.
-use mathlib.Core.Path.{◌≡◌, ap, ◌∙◌}
-use mathlib.Core.Bool.{true}
-use mathlib.Core.List.{List, ◌++◌, map}
+use mathlib.Core.Path.{◌≡◌, refl, ap, ◌∙◌}
+use mathlib.Core.Bool.{Bool, true, false}
+use mir.Val.{bool_byte}
+use mathlib.Core.List.{List, ◌++◌}
 use Prim.Native.Nat.{ℕ, ◌*◌, ◌≤◌}
 use lib.ListN.{length, take, drop}
+use Rattle.theory.specs.Count.{bump}
 use Rattle.theory.specs.Pick.{good, pick}
-use Rattle.theory.specs.Parts.{chop}
 use Rattle.closing.specs.Closing.{kept, closed_up}
 use Rattle.sizes.specs.Sizes.{slot_length}
 use Rattle.slots.specs.Slots.{slots_in, slots_of, records, used_in, used_part}
-use Rattle.slots.specs.Search.{of_actor}
 use Rattle.slots.specs.laws.Slots.{used_fits, slots_used}
 use Rattle.register.specs.Register.{in_order}
-use Rattle.holdings.specs.Holdings.{others}
 use Rattle.upkeep.specs.Holds.{Left}
 use Rattle.upkeep.specs.laws.Stays.{closed}
 use Rattle.removing.specs.laws.Marks.{mark_by}
-use Rattle.removing.specs.laws.Marking.{left_by}
 
 module _ (b : List ℕ) (h : in_order b ≡ true) where
   -- there are as many marks as records
@@ -33,7 +31,11 @@ module _ (b : List ℕ) (h : in_order b ≡ true) where
           counted = e.1 ∙ rw u (ap (λ (S : List (List ℕ)). length (pick good marks S)) (slots_used b));
         }
 
-pub others_left : (b who marks : List ℕ) (n : ℕ) → n ≡ used_in b → marks ≡ map (mark_by (of_actor who)) (chop slot_length n b)
-    → (b' : List ℕ) (r : ℕ) → Left (slots_in b) (pick good marks (records b)) b' r → Left (slots_in b) (others who (records b)) b' r
-unfolding others
-others_left b who = left_by b (of_actor who)
+-- a mark, as the code makes it of what was asked
+pub mark_is : (p : List ℕ → Bool) (r : List ℕ) (t : Bool) (m : ℕ) → t ≡ p r → m ≡ bool_byte t → m ≡ mark_by p r
+unfolding mark_by bump
+mark_is p r t m e f = rw (f, ← e) (go t)
+  where
+    go : (t : Bool) → bool_byte t ≡ bump t 0
+    go true = refl
+    go false = refl

@@ -169,10 +169,6 @@ module _ (stamp : List ℕ) (n : ℕ) (goal : List (List ℕ)) (b : List ℕ) (u
       leads true e = e
       leads false e = e
 
-  -- no byte more or less
-  pub storing_length : (b₀ : List ℕ) (ls ks : List (List ℕ)) (m : ℕ) → Storing stamp n goal ks b₀ m → Storing stamp n goal ls b used → length b ≡ length b₀
-  storing_length b₀ ls ks m s₀ s = omega (arith, (ordered b₀ s₀.order).whole, (ordered b s.order).whole, s₀.many, s.many)
-
   pub storing_end : (width : ℕ) (vs ls : List ℕ) (i : ℕ) → Storing stamp n goal (taken_from width (length vs) vs ls i) b used → length vs ≤ i → Holds n goal b
   unfolding stored_all
   storing_end width vs ls i s h =

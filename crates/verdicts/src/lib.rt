@@ -1,103 +1,95 @@
-// The verdicts of a file: each line by L1 to L10, by the register as it was (L11), and by the lines taken before it
-// (L12). 0 is taken, any other number the reason.
+//! The verdicts of a file: each line by L1 to L10, by the register as it was (L11), and by the lines taken before it
+//! (L12). In the block of verdicts 0 is taken, any other byte the reason's number.
 #![tactic(auto)]
 
-ghost use Rattle.std.specs.Prelude.{◌≡◌, ◌+◌, ◌*◌, ◌≤◌, length};
-ghost use Rattle.theory.specs.First.{first};
+ghost use Rattle.std.specs.Prelude.{◌≡◌, ◌&&◌, eqb, ◌≤◌, ◌<◌, length};
 ghost use Rattle.theory.specs.Parts.{chop, part_at};
 ghost use Rattle.theory.specs.Walk.{some};
 ghost use Rattle.theory.specs.Pick.{good, pick};
 ghost use Rattle.slots.specs.Slots.{slots_of};
 ghost use Rattle.slots.specs.Search.{holds_pan};
 ghost use Rattle.hgv.specs.Layout.{lines_in};
-ghost use Rattle.verdicts.specs.Verdict.{own_rules, verdict, verdicts_of};
-ghost use Rattle.verdicts.specs.Promises.{Judge};
+ghost use Rattle.rules.specs.Numbers.{verdict_number};
+ghost use Rattle.verdicts.specs.Verdict.{verdict, verdicts_of};
+ghost use Rattle.verdicts.specs.Promises.{Byte, Judge};
 
-// Has one of the taken lines among the first n this PAN.
-fn is_named(lines: &[u8], width: usize, verdicts: &[u8], n: usize, pan: &[u8]) -> bool
-    requires { (n * width ≤ length lines.now) × (n ≤ length verdicts.now) }
-    ensures { result ≡ some (holds_pan pan.now) (pick good verdicts.now (chop width n lines.now)) }
+use rules::{Reason, require};
+use texts::Parts;
+
+/// What the lines of a file are judged by: their sender, the issuer rows, and the slots that the register uses.
+#[derive(Clone, Copy)]
+pub struct Basis<'a> {
+    pub sender: &'a [u8],
+    pub rows: &'a [u8],
+    pub held: &'a [u8],
+}
+
+/// A verdict as the byte that stands for it in a block.
+pub fn byte(verdict: Result<(), Reason>) -> u8
+    ensures { Byte verdict result }
 {
-    let mut i: usize = 0;
-    while i < n {
-        let l = texts::part(lines, width, i);
-        let same = texts::has_text(l, columns::PAN_FROM, columns::PAN_TO, pan);
-        if (verdicts[i] == 0) & same {
+    match verdict {
+        Ok(()) => 0,
+        Err(reason) => reason.number(),
+    }
+}
+
+// Was this line taken, and has it this PAN.
+#[tactic(auto, unfolding(slots::specs::Search::holds_pan))]
+fn is_entry(l: &[u8], verdict: u8, pan: &[u8]) -> bool
+    ensures { result ≡ eqb verdict 0 && holds_pan pan.now l.now }
+{
+    // Stays: a verdict is the byte that the definition lends for each line, and an option takes twice the stack.
+    verdict == 0 && columns::PAN.has(l, pan)
+}
+
+// Has one of the taken lines, among those that have a verdict, this PAN.
+fn is_named(lines: &Parts, verdicts: &[u8], pan: &[u8]) -> bool
+    requires { length verdicts.now ≤ lines.now.count }
+    ensures { result ≡ some (holds_pan pan.now) (pick good verdicts.now (chop lines.now.width (length verdicts.now) lines.now.block.now)) }
+{
+    for (i, &verdict) in verdicts.iter().enumerate() {
+        if is_entry(lines.part(i), verdict, pan) {
             return true;
         }
-        i += 1;
     }
     false
 }
 
-// The first of L1 to L11 that a line breaks: what asks nothing of the file's other lines.
-fn own_fault(l: &[u8], sender: &[u8], rows: &[u8], held: &[u8]) -> u8
-    ensures { result ≡ first (own_rules rows.now sender.now (slots_of held.now) l.now) }
+// The verdict of the line behind those that have one.
+#[tactic(auto, using(crate::proofs::Laws::own_line, crate::proofs::Laws::own_held, crate::proofs::Laws::verdict_own, crate::proofs::Laws::verdict_named), unfolding(theory::specs::First::choose))]
+fn verdict_next(lines: &Parts, verdicts: &[u8], basis: &Basis) -> Result<(), Reason>
+    requires { length verdicts.now < lines.now.count }
+    ensures { verdict_number result ≡ verdict basis.now.rows.now basis.now.sender.now (slots_of basis.now.held.now) (pick good verdicts.now (chop lines.now.width (length verdicts.now) lines.now.block.now)) (part_at lines.now.width (length verdicts.now) lines.now.block.now) }
 {
-    let fault = lines::line_fault(l, sender, rows);
-    if fault != 0 {
-        return fault as u8;
-    }
-    let pan = texts::field(l, columns::PAN_FROM, columns::PAN_TO);
-    if slots::is_held_by_another(held, pan, sender) {
-        return 4;
-    }
-    0
-}
-
-// The verdict of line i, beside those of the lines before it.
-fn verdict_at(
-    lines: &[u8],
-    width: usize,
-    i: usize,
-    verdicts: &[u8],
-    sender: &[u8],
-    rows: &[u8],
-    held: &[u8],
-) -> u8
-    requires { (i * width + width ≤ length lines.now) × (i ≤ length verdicts.now) }
-    ensures { result ≡ verdict rows.now sender.now (slots_of held.now) (pick good verdicts.now (chop width i lines.now)) (part_at width i lines.now) }
-{
-    let l = texts::part(lines, width, i);
-    let fault = own_fault(l, sender, rows, held);
-    if fault != 0 {
-        return fault;
-    }
-    let pan = texts::field(l, columns::PAN_FROM, columns::PAN_TO);
-    if is_named(lines, width, verdicts, i, pan) {
-        return 1;
-    }
-    0
+    let l = lines.part(verdicts.len());
+    lines::line_fault(l, basis.sender, basis.rows)?;
+    let pan = columns::PAN.of(l);
+    let held = slots::is_held_by_another(basis.held, pan, basis.sender);
+    require(!held, Reason::Range)?;
+    require(!is_named(lines, verdicts, pan), Reason::Duplicate)
 }
 
 // A verdict for each of the lines, as many as `verdicts` has room for.
-fn judge_lines(
-    lines: &[u8],
-    width: usize,
-    sender: &[u8],
-    rows: &[u8],
-    held: &[u8],
-    verdicts: &mut [u8],
-)
-    requires { length verdicts.old * width ≤ length lines.now }
-    ensures { verdicts.new ≡ verdicts_of rows.now sender.now (slots_of held.now) (chop width (length verdicts.old) lines.now) }
+fn judge_lines(lines: &Parts, basis: &Basis, verdicts: &mut [u8])
+    requires { length verdicts.old ≤ lines.now.count }
+    ensures { verdicts.new ≡ verdicts_of basis.now.rows.now basis.now.sender.now (slots_of basis.now.held.now) (chop lines.now.width (length verdicts.old) lines.now.block.now) }
 {
-    let mut i: usize = 0;
-    while i < verdicts.len() {
-        let v = verdict_at(lines, width, i, verdicts, sender, rows, held);
-        verdicts[i] = v;
-        i += 1;
+    for i in 0..verdicts.len() {
+        let v = verdict_next(lines, &verdicts[..i], basis);
+        verdicts[i] = byte(v);
     }
 }
 
-// The verdicts of a file, a byte for each of its lines.
+/// The verdicts of a file, a byte for each of its lines.
 pub fn judge(hgv: &[u8], rows: &[u8], register: &[u8], verdicts: &mut [u8])
     requires { length verdicts.old ≡ lines_in hgv.now }
     ensures { Judge hgv.now rows.now register.now verdicts.old verdicts.new }
 {
-    let lines = hgv::body(hgv);
-    let width = hgv::width(hgv);
-    let sender = header::sender(hgv);
-    let held = slots::used_part(register);
-    judge_lines(lines, width, sender, rows, held, verdicts);
+    let basis = Basis {
+        sender: header::sender(hgv),
+        rows,
+        held: slots::used_part(register),
+    };
+    judge_lines(&hgv::lines(hgv), &basis, verdicts);
 }

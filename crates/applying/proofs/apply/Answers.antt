@@ -7,4 +7,4 @@ returns c =
 
 pub store_all-requires : goal.store_all-requires
 store_all-requires c =
-    record { lined = c.requires.lined; judged = c.requires.sought.many; storing = can_store _ _ _ _ _ _ _ _ c.requires.ordered c.requires.kept c.requires.fit c.requires.sought _ _ c.prepare-used.ensures _ c.told_below-told.ensures _ c.write_stamp.ensures }
+    record { lined = c.requires.lined; storing = can_store _ _ _ _ _ _ _ _ c.requires.ordered c.requires.kept c.requires.fit c.requires.sought _ _ c.prepare-used.ensures _ c.told_below-told.ensures _ c.write_stamp.ensures }

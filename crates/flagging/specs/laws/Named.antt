@@ -17,7 +17,7 @@ use Rattle.theory.specs.laws.Walk.{some_append}
 use Rattle.theory.specs.Parts.{chop, part_at}
 use Rattle.theory.specs.laws.Parts.{length_chop}
 use Rattle.theory.specs.laws.Join.{chop_snoc}
-use Rattle.theory.specs.Pick.{good, bad, pick}
+use Rattle.theory.specs.Pick.{good, pick}
 use Rattle.theory.specs.laws.Pick.{pick_next, pick_take}
 use Rattle.slots.specs.Search.{holds_pan}
 use Rattle.flagging.specs.laws.Firsts.{pan_at, first_at, first_within, same_first, first_same}
@@ -27,9 +27,9 @@ unfoldable pub named : ℕ → List ℕ → List ℕ → ℕ → List ℕ → Bo
 named width lines vs i pan = some (holds_pan pan) (pick good vs (chop width i lines))
 
 -- for each of n lines, the flag at the first that has its PAN says whether a taken line among the first i has it
-pub record Flagged (width : ℕ) (lines : List ℕ) (n : ℕ) (vs : List ℕ) (i : ℕ) (flags : List ℕ) : Type 0 where
+pub record Flagged (width : ℕ) (lines : List ℕ) (n : ℕ) (vs : List ℕ) (i : ℕ) (flags : List Bool) : Type 0 where
   pub size : length flags ≡ n
-  pub flag : (j : ℕ) → j < n → bad (get_or flags (first_at width lines n j) 0) ≡ named width lines vs i (pan_at width lines j)
+  pub flag : (j : ℕ) → j < n → get_or flags (first_at width lines n j) false ≡ named width lines vs i (pan_at width lines j)
 
 some_one : (q : List ℕ → Bool) (b : Bool) (x : List ℕ) → some q (onto b x []) ≡ b && q x
 unfolding some onto
@@ -57,19 +57,19 @@ module _ (width : ℕ) (lines : List ℕ) where
         some_one (holds_pan pan) (good v) x,
       )
 
-  pub flagged_start : (n : ℕ) (vs flags : List ℕ) → flags ≡ replicate n 0 → Flagged width lines n vs 0 flags
-  unfolding named bad chop pick some
+  pub flagged_start : (n : ℕ) (vs : List ℕ) (flags : List Bool) → flags ≡ replicate n false → Flagged width lines n vs 0 flags
+  unfolding named chop pick some
   flagged_start n vs flags e =
       record {
-        size = rw e (length-replicate n 0);
-        flag = λ j l. rw (e, get_or-replicate {A = ℕ} n (first_at width lines n j) 0 0 (omega (arith, first_within width lines n j l))) (sym (nothing (pan_at width lines j) vs));
+        size = rw e (length-replicate n false);
+        flag = λ j l. rw (e, get_or-replicate {A = Bool} n (first_at width lines n j) false false (omega (arith, first_within width lines n j l))) (sym (nothing (pan_at width lines j) vs));
       }
     where
       nothing : (t us : List ℕ) → some (holds_pan t) (pick good us []) ≡ false
       nothing t [] = refl
       nothing t (u ∷ us) = refl
 
-  module _ (n : ℕ) (vs : List ℕ) (i : ℕ) (flags : List ℕ) (g : Flagged width lines n vs i flags) (h : i < n) where
+  module _ (n : ℕ) (vs : List ℕ) (i : ℕ) (flags : List Bool) (g : Flagged width lines n vs i flags) (h : i < n) where
     pub flag_within : first_at width lines n i < length flags
     flag_within = omega (arith, g.size, first_within width lines n i h)
 
@@ -80,15 +80,15 @@ module _ (width : ℕ) (lines : List ℕ) where
     at = first_at width lines n
 
     -- v is the line's verdict, a the place of the first that has its PAN, and m the flag that stands there from now on
-    pub flagged_turn : i < length vs → (v a m : ℕ) → a ≡ first_at width lines n i → bad m ≡ bad (get_or flags a 0) || good v
+    pub flagged_turn : i < length vs → (v a : ℕ) (m : Bool) → a ≡ first_at width lines n i → m ≡ get_or flags a false || good v
         → Flagged width lines n (set vs i v) (i + 1) (set flags a m)
     flagged_turn l v a m p q = record { size = length-set flags a m ∙ g.size; flag = λ j k. go j k (eqs (pan i) (pan j)) refl }
       where
-        go : (j : ℕ) → j < n → (r : Bool) → eqs (pan i) (pan j) ≡ r → bad (get_or (set flags a m) (at j) 0) ≡ named width lines (set vs i v) (i + 1) (pan j)
+        go : (j : ℕ) → j < n → (r : Bool) → eqs (pan i) (pan j) ≡ r → get_or (set flags a m) (at j) false ≡ named width lines (set vs i v) (i + 1) (pan j)
         go j k true e =
             let s : at j ≡ a = sym (p ∙ same_first width lines n i j (eqs_true (pan i) (pan j) e)) in
             let u : a < length flags = rw p flag_within in
-            rw (s, get_or-set_same flags a m 0 u, named_next vs i v (pan j) l, e, and_true (good v), ← g.flag j k, s) q
+            rw (s, get_or-set_same flags a m false u, named_next vs i v (pan j) l, e, and_true (good v), ← g.flag j k, s) q
         go j k false e =
             let s : at j ≡ a → ⊥ = λ x. true≢false (sym (eq_eqs (pan i) (pan j) (first_same width lines n i j h k (sym p ∙ sym x))) ∙ e) in
-            rw (get_or-set_other flags a (at j) m 0 s, named_next vs i v (pan j) l, e, and_none (good v) false refl, g.flag j k) (sym (or_false _))
+            rw (get_or-set_other flags a (at j) m false s, named_next vs i v (pan j) l, e, and_none (good v) false refl, g.flag j k) (sym (or_false _))

@@ -15,12 +15,12 @@ overflow_add-result c =
     let p = c.requires in
     omega (arith, answer_fits _ _ _ _ _ p.1.0 c.if-verdict-eq0.false p.1.1)
 
-pub overflow_add-result-2 : goal.overflow_add-result-2
-overflow_add-result-2 c =
+pub overflow_add-result-else-verdict-eq0 : goal.overflow_add-result-else-verdict-eq0
+overflow_add-result-else-verdict-eq0 c =
     let p = c.requires in
     omega (arith, answer_fits _ _ _ _ _ p.1.0 c.if-verdict-eq0.false p.1.1)
 
-pub returns : goal.returns
-returns c =
+pub returns-else-verdict-eq0 : goal.returns-else-verdict-eq0
+returns-else-verdict-eq0 c =
     let p = c.requires in
     line_answered _ _ _ _ _ p.0 p.1.0 _ c.put_answer.ensures c.if-verdict-eq0.false p.1.1

@@ -13,4 +13,4 @@ pub returns : goal.returns
 returns c =
     let p = c.requires in
     answer_written _ _ _ _ _ _ _ _ _ _ p.0 p.1.0 p.1.1 c.field-text.ensures c.put_field.ensures c.put_field-2.ensures
-    c.put_number.ensures c.put_field-3.ensures
+    (rw c.from.ensures at c.put_number.ensures) c.put_field-3.ensures

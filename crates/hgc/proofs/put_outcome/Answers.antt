@@ -6,5 +6,5 @@ use Rattle.hgc.proofs.put_outcome.Goals as goal
 pub returns-then-rejected-eq0 : goal.returns-then-rejected-eq0
 returns-then-rejected-eq0 c = c.put_field.ensures ∙ put_ap 108 _ (outcome_none _ c.if-rejected-eq0.true)
 
-pub returns : goal.returns
-returns c = c.put_field-2.ensures ∙ put_ap 108 _ (outcome_some _ c.if-rejected-eq0.false)
+pub returns-else-rejected-eq0 : goal.returns-else-rejected-eq0
+returns-else-rejected-eq0 c = c.put_field-else-rejected-eq0.ensures ∙ put_ap 108 _ (outcome_some _ c.if-rejected-eq0.false)

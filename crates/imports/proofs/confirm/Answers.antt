@@ -1,6 +1,5 @@
 use Rattle.imports.proofs.Laws.{local_fits}
-use borrow.Author.Rules.{rules}
 use Rattle.imports.proofs.confirm.Goals as goal
 
 pub write_local-requires : goal.write_local-requires
-write_local-requires c = (search rules, local_fits _ _ c.requires.timed)
+write_local-requires c = local_fits _ _ c.requires.timed

@@ -7,7 +7,7 @@ use Rattle.theory.specs.laws.First.{numbered, fits_at, none_at, first_clear}
 use Rattle.theory.specs.laws.Stopped.{at_stop, by_first}
 use Rattle.slots.specs.Slots.{slots_in}
 use Rattle.stops.specs.Stops.{call_stops, file_stops, form_stops, index_short, indexed_form_stops, indexed_form_stop}
-use Rattle.imports.specs.declared.Imported.{Imported}
+use Rattle.imports.specs.Imported.{Imported}
 use Rattle.imports.specs.Handed.{Handed}
 use Rattle.imports.specs.Import.{judged_stops, timed, stops, import_number, refusal, import_answer, register_after, hgc_after}
 use Rattle.imports.specs.Promises.{ImportJudged}

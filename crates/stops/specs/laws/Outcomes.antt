@@ -1,5 +1,6 @@
 -- Two outcomes of one call are one, for each public function of this crate. Assumes nothing.
 use Rattle.std.specs.Prelude.{◌≡◌, Bool, List, ℕ}
+use Rattle.theory.specs.First.{choose}
 use Rattle.theory.specs.laws.Outcome.{one_outcome}
 use Rattle.stops.specs.Promises.{IsMode, IsFullWith220001, FormStop, IndexedFormStop}
 
@@ -16,3 +17,12 @@ form_stop_one mode timed register rows h r s = one_outcome
 pub indexed_form_stop_one : (mode : ℕ) (timed : Bool) (register rows : List ℕ) (k : ℕ) (h : List ℕ) (r s : ℕ)
     → IndexedFormStop mode timed register rows k h r → IndexedFormStop mode timed register rows k h s → r ≡ s
 indexed_form_stop_one mode timed register rows k h r s = one_outcome
+
+-- ---- one rule of a list with numbers, in front of what the later ones say
+
+-- the number where the rule fits, else what the later rules say
+abbrev pub First : Bool → ℕ → ℕ → ℕ → Type 0
+First fits number later r = r ≡ choose fits number later
+
+pub first_one : (fits : Bool) (number later r s : ℕ) → First fits number later r → First fits number later s → r ≡ s
+first_one fits number later r s = one_outcome

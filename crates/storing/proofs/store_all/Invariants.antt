@@ -1,7 +1,6 @@
 -- The invariant: the lines taken from the place i on lead to the records that are to be held, and it is told where their
 -- PANs stand.
 use mathlib.Core.List.{map}
-use Prim.Native.Nat.{◌≤◌, ◌-◌}
 use lib.ListN.{length}
 use Rattle.theory.specs.laws.Among.{taken_from}
 use Rattle.records.specs.Slot.{slot_of}
@@ -14,9 +13,5 @@ use Rattle.storing.proofs.store_all.Given as goal
 
 abbrev pub invariant-loop-i : goal.invariant-loop-i
 invariant-loop-i l =
-    (l.i ≤ length l.verdicts)
-    × Storing l.stamp (slots_in l.initial.register) (stored_all (records l.initial.register) (map (slot_of l.stamp) (taken_in l.width l.verdicts l.lines))) (taken_from l.width (length l.verdicts) l.verdicts l.lines l.i) l.register l.used
-    × Standing l.width l.verdicts l.lines l.told (records l.register) l.found l.i
-
-abbrev pub decreases-loop-i : goal.decreases-loop-i
-decreases-loop-i l = length l.verdicts - l.i
+    Storing l.stamp (slots_in l.initial.register) (stored_all (records l.initial.register) (map (slot_of l.stamp) (taken_in l.lines.width l.placed.verdicts.now l.lines.block.now))) (taken_from l.lines.width (length l.placed.verdicts.now) l.placed.verdicts.now l.lines.block.now l.i) l.register l.used
+    × Standing l.lines.width l.placed.verdicts.now l.lines.block.now l.told (records l.register) l.placed.found.now l.i
