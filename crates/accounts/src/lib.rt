@@ -1,4 +1,4 @@
-// An account, as a provider gives it, and the line that an HGV has for it.
+//! An account, as a provider gives it, and the line that an HGV has for it.
 #![tactic(auto)]
 
 ghost use Rattle.std.specs.Prelude.{◌≡◌, ◌+◌, ◌-◌, ◌≤◌, length};
@@ -6,172 +6,129 @@ ghost use Rattle.theory.specs.Join.{flat};
 ghost use Rattle.sizes.specs.Sizes.{line_length};
 ghost use Rattle.texts.specs.Field.{field};
 ghost use Rattle.writing.specs.Put.{put_field};
-ghost use Rattle.accounts.specs.Account.{account_length, sender_length, key_texts, tag_texts, product_texts, measure_texts, end_texts};
+ghost use Rattle.accounts.specs.Account.{key_texts, tag_texts, product_texts, measure_texts, end_texts};
 ghost use Rattle.accounts.specs.Promises.{PutLine};
 
-// An account, in bytes.
+use texts::Columns;
+
+/// An account, in bytes.
 pub const ACCOUNT: usize = 100;
 
+/// A sender, in bytes.
+pub const SENDER: usize = 6;
+
 // Its columns: the first and the last position of each, counted from 1.
-pub const PAN_FROM: usize = 1;
 
-pub const PAN_TO: usize = 19;
+/// Its PAN.
+pub const PAN: Columns = Columns { from: 1, to: 19 };
 
-const PLATE_FROM: usize = 20;
+const PLATE: Columns = Columns { from: 20, to: 29 };
 
-const PLATE_TO: usize = 29;
+const NATIONALITY: Columns = Columns { from: 30, to: 32 };
 
-const NATIONALITY_FROM: usize = 30;
+const TARIFF: Columns = Columns { from: 33, to: 34 };
 
-const NATIONALITY_TO: usize = 32;
+const CLASS: Columns = Columns { from: 35, to: 35 };
 
-const TARIFF_FROM: usize = 33;
+const AXLES: Columns = Columns { from: 36, to: 36 };
 
-const TARIFF_TO: usize = 34;
+const CONTEXT_MARK: Columns = Columns { from: 37, to: 48 };
 
-const CLASS: usize = 35;
+const OBE_ID: Columns = Columns { from: 49, to: 66 };
 
-const AXLES: usize = 36;
+const EMISSION: Columns = Columns { from: 67, to: 72 };
 
-const CONTEXT_MARK_FROM: usize = 37;
+const FUEL: Columns = Columns { from: 73, to: 74 };
 
-const CONTEXT_MARK_TO: usize = 48;
+const CHARGEABLE: Columns = Columns { from: 75, to: 75 };
 
-const OBE_ID_FROM: usize = 49;
+const ENGINE: Columns = Columns { from: 76, to: 78 };
 
-const OBE_ID_TO: usize = 66;
+const CO2: Columns = Columns { from: 79, to: 80 };
 
-const EMISSION_FROM: usize = 67;
+const WEIGHT: Columns = Columns { from: 81, to: 84 };
 
-const EMISSION_TO: usize = 72;
+const VALID_TO: Columns = Columns { from: 85, to: 98 };
 
-const FUEL_FROM: usize = 73;
+const SEPARATOR: Columns = Columns { from: 99, to: 100 };
 
-const FUEL_TO: usize = 74;
-
-const CHARGEABLE: usize = 75;
-
-const ENGINE_FROM: usize = 76;
-
-const ENGINE_TO: usize = 78;
-
-const CO2_FROM: usize = 79;
-
-const CO2_TO: usize = 80;
-
-const WEIGHT_FROM: usize = 81;
-
-const WEIGHT_TO: usize = 84;
-
-const VALID_TO_FROM: usize = 85;
-
-const VALID_TO_TO: usize = 98;
-
-const SEPARATOR_FROM: usize = 99;
-
-const SEPARATOR_TO: usize = 100;
-
-// Positions `from` to `to` of an account, written into a text at a position.
-fn put_column(text: &mut [u8], at: usize, a: &[u8], from: usize, to: usize)
-    requires forward { (1 ≤ at) × ((1 ≤ from) × (from ≤ to)) }
-    requires held { to ≤ length a.now }
-    requires room { at + (to - from) ≤ length text.old }
-    ensures { text.new ≡ put_field at (field from to a.now) text.old }
+// A column of an account, written into a text at a position.
+#[tactic(auto, using(crate::proofs::Laws::column_length))]
+fn put_column(text: &mut [u8], at: usize, a: &[u8; ACCOUNT], column: Columns)
+    requires placed { 1 ≤ at }
+    requires held { column.to ≤ length a.now }
+    requires room { at + (column.to - column.from) ≤ length text.old }
+    ensures { text.new ≡ put_field at (field column.from column.to a.now) text.old }
 {
-    writing::put_field(text, at, texts::field(a, from, to));
+    writing::put_field(text, at, column.of(a));
 }
 
 // The line from its type to the nationality; `at` is the position before it.
-fn put_keys(text: &mut [u8], at: usize, sender: &[u8], a: &[u8])
-    requires { (at + line_length ≤ length text.old) × ((length sender.now ≡ sender_length) × (length a.now ≡ account_length)) }
+// Stays: a text and the position before the line: what is written is told as one field of the whole text.
+#[tactic(auto, using(crate::proofs::Laws::keys_written))]
+fn put_keys(text: &mut [u8], at: usize, sender: &[u8; SENDER], a: &[u8; ACCOUNT])
+    requires { at + line_length ≤ length text.old }
     ensures { text.new ≡ put_field (at + 1) (flat (key_texts sender.now a.now)) text.old }
 {
     writing::put_field(text, at + 1, b"1");
-    writing::put_field(text, at + columns::ACTOR_FROM, sender);
-    writing::put_field(text, at + columns::SHADOW_FROM, b"      ");
-    put_column(text, at + columns::PAN_FROM, a, PAN_FROM, PAN_TO);
-    put_column(text, at + columns::PLATE_FROM, a, PLATE_FROM, PLATE_TO);
-    put_column(
-        text,
-        at + columns::NATIONALITY_FROM,
-        a,
-        NATIONALITY_FROM,
-        NATIONALITY_TO,
-    );
+    writing::put_field(text, at + columns::ACTOR.from, sender);
+    writing::put_field(text, at + columns::SHADOW.from, b"      ");
+    put_column(text, at + columns::PAN.from, a, PAN);
+    put_column(text, at + columns::PLATE.from, a, PLATE);
+    put_column(text, at + columns::NATIONALITY.from, a, NATIONALITY);
 }
 
 // From the tariff to the OBE ID.
-fn put_tag(text: &mut [u8], at: usize, a: &[u8])
-    requires { (at + line_length ≤ length text.old) × (length a.now ≡ account_length) }
+#[tactic(auto, using(crate::proofs::Laws::tag_written))]
+fn put_tag(text: &mut [u8], at: usize, a: &[u8; ACCOUNT])
+    requires { at + line_length ≤ length text.old }
     ensures { text.new ≡ put_field (at + 46) (flat (tag_texts a.now)) text.old }
 {
-    put_column(text, at + columns::TARIFF_FROM, a, TARIFF_FROM, TARIFF_TO);
-    put_column(text, at + columns::CLASS, a, CLASS, CLASS);
-    put_column(text, at + columns::AXLES, a, AXLES, AXLES);
-    put_column(
-        text,
-        at + columns::CONTEXT_MARK_FROM,
-        a,
-        CONTEXT_MARK_FROM,
-        CONTEXT_MARK_TO,
-    );
-    put_column(text, at + columns::OBE_ID_FROM, a, OBE_ID_FROM, OBE_ID_TO);
+    put_column(text, at + columns::TARIFF.from, a, TARIFF);
+    put_column(text, at + columns::CLASS.from, a, CLASS);
+    put_column(text, at + columns::AXLES.from, a, AXLES);
+    put_column(text, at + columns::CONTEXT_MARK.from, a, CONTEXT_MARK);
+    put_column(text, at + columns::OBE_ID.from, a, OBE_ID);
 }
 
 // The emission class and the product code.
-fn put_product(text: &mut [u8], at: usize, a: &[u8])
-    requires { (at + line_length ≤ length text.old) × (length a.now ≡ account_length) }
+#[tactic(auto, using(crate::proofs::Laws::product_written))]
+fn put_product(text: &mut [u8], at: usize, a: &[u8; ACCOUNT])
+    requires { at + line_length ≤ length text.old }
     ensures { text.new ≡ put_field (at + 80) (flat (product_texts a.now)) text.old }
 {
-    put_column(
-        text,
-        at + columns::EMISSION_FROM,
-        a,
-        EMISSION_FROM,
-        EMISSION_TO,
-    );
-    put_column(text, at + columns::FUEL_FROM, a, FUEL_FROM, FUEL_TO);
-    put_column(text, at + columns::CHARGEABLE, a, CHARGEABLE, CHARGEABLE);
-    writing::put_field(text, at + columns::PRODUCT_REST_FROM, b"   ");
+    put_column(text, at + columns::EMISSION.from, a, EMISSION);
+    put_column(text, at + columns::FUEL.from, a, FUEL);
+    put_column(text, at + columns::CHARGEABLE.from, a, CHARGEABLE);
+    writing::put_field(text, at + columns::PRODUCT_REST.from, b"   ");
 }
 
 // From the engine to the weight.
-fn put_measures(text: &mut [u8], at: usize, a: &[u8])
-    requires { (at + line_length ≤ length text.old) × (length a.now ≡ account_length) }
+#[tactic(auto, using(crate::proofs::Laws::measures_written))]
+fn put_measures(text: &mut [u8], at: usize, a: &[u8; ACCOUNT])
+    requires { at + line_length ≤ length text.old }
     ensures { text.new ≡ put_field (at + 92) (flat (measure_texts a.now)) text.old }
 {
-    put_column(text, at + columns::ENGINE_FROM, a, ENGINE_FROM, ENGINE_TO);
-    put_column(text, at + columns::CO2_FROM, a, CO2_FROM, CO2_TO);
-    put_column(text, at + columns::WEIGHT_FROM, a, WEIGHT_FROM, WEIGHT_TO);
+    put_column(text, at + columns::ENGINE.from, a, ENGINE);
+    put_column(text, at + columns::CO2.from, a, CO2);
+    put_column(text, at + columns::WEIGHT.from, a, WEIGHT);
 }
 
 // From Valid to to the line's end.
-fn put_end(text: &mut [u8], at: usize, a: &[u8])
-    requires { (at + line_length ≤ length text.old) × (length a.now ≡ account_length) }
+fn put_end(text: &mut [u8], at: usize, a: &[u8; ACCOUNT])
+    requires { at + line_length ≤ length text.old }
     ensures { text.new ≡ put_field (at + 101) (flat (end_texts a.now)) text.old }
 {
-    put_column(
-        text,
-        at + columns::VALID_TO_FROM,
-        a,
-        VALID_TO_FROM,
-        VALID_TO_TO,
-    );
-    put_column(
-        text,
-        at + columns::SEPARATOR_FROM,
-        a,
-        SEPARATOR_FROM,
-        SEPARATOR_TO,
-    );
-    writing::put_field(text, at + columns::FILLER_FROM, b"00000000000");
+    put_column(text, at + columns::VALID_TO.from, a, VALID_TO);
+    put_column(text, at + columns::SEPARATOR.from, a, SEPARATOR);
+    writing::put_field(text, at + columns::FILLER.from, b"00000000000");
     writing::put_field(text, at + sizes::LINE, b"\n");
 }
 
-// The line that this sender's account has, written from a position on.
-pub fn put_line(text: &mut [u8], from: usize, sender: &[u8], a: &[u8])
-    requires room { (1 ≤ from) × (from - 1 + line_length ≤ length text.old) }
-    requires sized { (length sender.now ≡ sender_length) × (length a.now ≡ account_length) }
+/// The line that this sender's account has, written from a position on.
+#[tactic(auto, using(crate::proofs::Laws::line_written))]
+pub fn put_line(text: &mut [u8], from: usize, sender: &[u8; SENDER], a: &[u8; ACCOUNT])
+    requires { (1 ≤ from) × (from - 1 + line_length ≤ length text.old) }
     ensures { PutLine text.old from sender.now a.now text.new }
 {
     let at = from - 1;

@@ -1,15 +1,12 @@
 -- What the functions of this crate cite. Assumes nothing.
 use mathlib.Core.Path.{◌≡◌, sym}
 use mathlib.Core.List.{List}
-use Prim.Native.Nat.{ℕ, ◌-◌, ◌/◌, ◌<◌}
+use Prim.Native.Nat.{ℕ, ◌-◌, ◌<◌}
 use native.Mathlib.Omega.{arith}
-use native.Mathlib.Nat.{zero-div}
 use lib.ListN.{length, take, drop, length-drop, drop_of_length-le}
 use lib.Seq.{take_all}
-use Rattle.hgv.specs.Layout.{width_of}
-use Rattle.hgc.specs.Confirmation.{answer_length}
 use Rattle.sizes.specs.Sizes.{hgc_header_length}
-use Rattle.answers.specs.Layout.{bare_length, answers_in, behind_head}
+use Rattle.answers.specs.Layout.{behind_head}
 
 module _ (g : List ℕ) where
   -- the lines as the code lends them
@@ -20,13 +17,3 @@ module _ (g : List ℕ) where
   pub lines_lent : take (length g - hgc_header_length) (drop hgc_header_length g) ≡ behind_head g
   unfolding behind_head
   lines_lent = take_all (length g - hgc_header_length) (drop hgc_header_length g) (rw length-drop (omega arith))
-
-module _ (h g : List ℕ) where
-  -- a text too short for header and footer
-  pub answers_short : length g < bare_length → 0 ≡ answers_in h g
-  unfolding answers_in
-  answers_short l = let z : length g - bare_length ≡ 0 = omega arith in sym (rw (z, zero-div (answer_length (width_of h))))
-
-  pub answers_long : (w : ℕ) → w ≡ answer_length (width_of h) → (length g - bare_length) / w ≡ answers_in h g
-  unfolding answers_in
-  answers_long w e = rw e

@@ -2,12 +2,12 @@
 use mathlib.Core.Path.{◌≡◌, refl, sym, ap, ◌∙◌}
 use mathlib.Core.Bool.{Bool, true, false, ◌&&◌, true≢false}
 use mathlib.Core.List.{List, [], map}
-use Prim.Native.Nat.{ℕ, zero, suc, ◌+◌, ◌*◌, ◌-◌, ◌≤◌, ◌<◌}
+use Prim.Native.Nat.{ℕ, zero, suc, ◌+◌, ◌-◌, ◌≤◌, ◌<◌}
 use native.Mathlib.Omega.{arith}
 use lib.Dec.{eqb}
+use borrow.Author.Tests.{eq-eqb, ne_eqb}
 use lib.ListN.{length, get_or, set, length-map, get_or-map}
 use lib.Seq.{take-nil}
-use Rattle.theory.specs.laws.Truth.{and_assoc}
 use Rattle.theory.specs.Same.{eqs}
 use Rattle.theory.specs.laws.Same.{eqs_true, eq_eqs}
 use Rattle.theory.specs.Count.{bump}
@@ -15,25 +15,24 @@ use Rattle.theory.specs.laws.Count.{bump_le}
 use Rattle.theory.specs.Parts.{chop, part_at}
 use Rattle.theory.specs.laws.Parts.{length_chop}
 use Rattle.theory.specs.laws.Join.{get_d_chop}
-use Rattle.theory.specs.Walk.{each}
 use Rattle.theory.specs.Pick.{good, pick}
-use Rattle.theory.specs.Distinct.{distinct}
 use Rattle.theory.specs.Tally.{tally}
+use Rattle.texts.specs.declared.parts.Parts.{Parts}
 use Rattle.texts.specs.Field.{field}
 use Rattle.texts.specs.laws.Field.{field_field}
-use Rattle.numbers.specs.Number.{number}
 use Rattle.columns.specs.Columns.{text, pan_of}
-use Rattle.hgv.specs.Layout.{width_of, lines_in, body, lines_of}
-use Rattle.hgv.specs.laws.Layout.{IsWidth, is_width, lines_room, length_lines}
-use Rattle.hgc.specs.Confirmation.{answer_length}
+use Rattle.hgv.specs.Layout.{width_of, lines_in, lines_of}
+use Rattle.hgv.specs.Promises.{Lines}
+use Rattle.hgv.specs.laws.Layout.{IsWidth, length_lines}
 use Rattle.pairing.specs.Backwards.{is_last, lower, waiting, paired}
 use Rattle.pairing.specs.laws.Backwards.{pairs_up, length_paired}
 use Rattle.theory.specs.Firsts.{firsts}
+use Rattle.pairing.specs.laws.Pairing.{length_marks}
 use Rattle.pairing.specs.laws.Turns.{Pairs, pairs_turn, lower_hit, lower_miss, last_some}
-use Rattle.answers.specs.Layout.{answers_in, behind_head, taken_of, rejected_of}
-use Rattle.receipts.specs.Receipt.{texts_of, copies_of, marks_of, taken_by, copies_hold, counts_hold, line_holds, taken_hold, lines_hold}
-use Rattle.answers.specs.laws.Layout.{answers_room, answers_are}
-use Rattle.matching.specs.laws.Texts.{texts_in}
+use Rattle.receipts.specs.Receipt.{texts_of, copies_of, marks_of, taken_by, copies_hold}
+use Rattle.answers.specs.Promises.{Lines as Answered}
+use Rattle.answers.specs.laws.Layout.{lines_are}
+use Rattle.matching.specs.laws.Texts.{texts_in, all_of, part_texts}
 use Rattle.matching.specs.laws.Matching.{copies_pair, pair_marks, taken_count}
 
 -- ---- texts by their places
@@ -67,15 +66,9 @@ other_pan w wide a b p q r e h = go (eqs (text w a) (text w b)) refl
 -- ---- the last copy
 
 -- x is the copy before the place k
-pub last_is : (u w k : ℕ) (b t : List ℕ) → (k ≡ 0 → ⊥) → (x : List ℕ) → x ≡ part_at w (k - 1) b → (r : Bool) → r ≡ eqs t (text u x) → r ≡ is_last (texts_in u w k b) k t
-last_is u w k b t h x p r e =
-    sym (last_some (texts_in u w k b) k t (omega (arith, h)) ∙ rw (text_at_lem u w k b (k - 1) (omega (arith, h)), ← p, ← e))
-
--- more copies behind it do not count
-last_within : (u w n k : ℕ) (b t : List ℕ) → k ≤ n → is_last (texts_in u w k b) k t ≡ is_last (texts_in u w n b) k t
-unfolding is_last
-last_within u w n zero b t h = refl
-last_within u w n (suc k) b t h = rw (text_at_lem u w (suc k) b k (omega arith), text_at_lem u w n b k (omega arith))
+pub last_is : (u w n k : ℕ) (b t : List ℕ) → (k ≡ 0 → ⊥) → k ≤ n → (x : List ℕ) → x ≡ part_at w (k - 1) b → (r : Bool) → r ≡ eqs t (text u x) → r ≡ is_last (texts_in u w n b) k t
+last_is u w n k b t h m x p r e =
+    sym (last_some (texts_in u w n b) k t (omega (arith, h)) ∙ rw (text_at_lem u w n b (k - 1) (omega (arith, h)), ← p, ← e))
 
 pub last_most : (copies : List (List ℕ)) (k : ℕ) (t : List ℕ) (s : ℕ) → s ≡ bump (is_last copies k t) 0 → s ≤ k
 unfolding is_last bump
@@ -89,15 +82,15 @@ unfolding bump
 lowered true k s e = rw e (sym (lower_hit k))
 lowered false k s e = rw e (omega (arith, lower_miss k))
 
-module _ (w n : ℕ) (lines : List ℕ) (v m : ℕ) (answers : List ℕ) where
+module _ (w n : ℕ) (lines : List ℕ) (copies : List (List ℕ)) where
   -- x is the line before the place i, and s its mark
-  pub pair_turn : (i k : ℕ) (ms : List ℕ) → Pairs (texts_in w w n lines) (texts_in w v m answers) i k ms → k ≤ m → 0 < i → i ≤ n → length ms ≡ n
-      → (x : List ℕ) → x ≡ part_at w (i - 1) lines → (s : ℕ) → s ≡ bump (is_last (texts_in w v k answers) k (text w x)) 0
-      → Pairs (texts_in w w n lines) (texts_in w v m answers) (i - 1) (k - s) (set ms (i - 1) s)
-  pair_turn i k ms p c z h l x q s e =
-      let r : Bool = is_last (texts_in w v m answers) k (get_or (texts_in w w n lines) (i - 1) []) in
-      let f : s ≡ bump r 0 = e ∙ rw (text_at_lem w w n lines (i - 1) (omega arith), ← q, last_within w v m k answers (text w x) c) in
-      pairs_turn (texts_in w w n lines) (texts_in w v m answers) i k ms p (i - 1) (omega arith) (omega (arith, length_texts w w n lines)) (omega arith) r refl (k - s) (lowered r k s f) (set ms (i - 1) s) (rw f)
+  pub pair_turn : (i k : ℕ) (ms : List ℕ) → Pairs (texts_in w w n lines) copies i k ms → 0 < i → i ≤ n → length ms ≡ n
+      → (x : List ℕ) → x ≡ part_at w (i - 1) lines → (s : ℕ) → s ≡ bump (is_last copies k (text w x)) 0
+      → Pairs (texts_in w w n lines) copies (i - 1) (k - s) (set ms (i - 1) s)
+  pair_turn i k ms p z h l x q s e =
+      let r : Bool = is_last copies k (get_or (texts_in w w n lines) (i - 1) []) in
+      let f : s ≡ bump r 0 = e ∙ rw (text_at_lem w w n lines (i - 1) (omega arith), ← q) in
+      pairs_turn (texts_in w w n lines) copies i k ms p (i - 1) (omega arith) (omega (arith, length_texts w w n lines)) (omega arith) r refl (k - s) (lowered r k s f) (set ms (i - 1) s) (rw f)
 
 -- ---- as many marks as lines
 
@@ -105,55 +98,51 @@ length_marked : (h g ms : List ℕ) → ms ≡ paired (texts_of h) (copies_of h 
 unfolding texts_of
 length_marked h g ms e = rw e (length_paired (copies_of h g) (map (text (width_of h)) (lines_of h)) ∙ length-map (lines_of h) (text (width_of h)) ∙ length_lines h)
 
--- ---- the copies are the lines left: `lines`, their width and `answers` are handed over, with room for m marks
+-- ---- the copies are the lines left: both files' lines are handed over as parts
 
-module _ (h g lines answers : List ℕ) (w m n : ℕ) (b : lines ≡ body h) (d : w ≡ width_of h) (a : answers ≡ behind_head g) (k : n ≡ answers_in h g) (sized : m ≡ lines_in h) where
-  pub pair_room : IsWidth w × ((m * w ≤ length lines) × (n * answer_length w ≤ length answers))
-  pair_room = (rw d (is_width h), (rw (b, d, sized) (lines_room h), answers_room h g answers (answer_length w) n a (ap answer_length d) k))
-
-  texts_are : texts_in w w m lines ≡ texts_of h
+module _ (h g : List ℕ) (lines answers : Parts) (b : Lines h lines) (a : Answered h g answers) where
+  texts_are : part_texts lines.width lines ≡ texts_of h
   unfolding texts_in texts_of lines_of
-  texts_are = rw (b, d, sized)
+  texts_are = rw (b.0, b.1, b.2)
 
-  copies_are : texts_in w (answer_length w) n answers ≡ copies_of h g
+  copies_are : part_texts lines.width answers ≡ copies_of h g
   unfolding texts_in copies_of
-  copies_are = rw (answers_are h g answers (answer_length w) n a (ap answer_length d) k, d)
+  copies_are = rw (b.1, lines_are h g answers a)
 
   -- ms are the marks, and x copies wait
   module _ (x : ℕ) (ms : List ℕ)
-      (p : (x ≡ waiting (texts_in w w m lines) (texts_in w (answer_length w) n answers)) × (ms ≡ paired (texts_in w w m lines) (texts_in w (answer_length w) n answers))) where
+      (p : (x ≡ waiting (part_texts lines.width lines) (part_texts lines.width answers)) × (ms ≡ paired (part_texts lines.width lines) (part_texts lines.width answers))) where
     pub marked : ms ≡ paired (texts_of h) (copies_of h g)
     marked = p.1 ∙ rw (texts_are, copies_are)
 
+    pub marked_each : length ms ≡ lines.count
+    marked_each = length_marked h g ms marked ∙ sym b.2
+
     -- r says whether the lines marked 0 are the first of their texts
-    pub are_copies : (r : Bool) → r ≡ firsts (texts_in w w (length ms) lines) ms → eqb x 0 && r ≡ copies_hold h g
+    are_copies : (r : Bool) → r ≡ firsts (part_texts lines.width lines) ms → eqb x 0 && r ≡ copies_hold h g
     unfolding pairs_up
-    are_copies r f =
-        let e : length ms ≡ m = length_marked h g ms marked ∙ sym sized in
-        rw (f, e, p.0, texts_are, copies_are, marked) (sym (copies_pair h g))
+    are_copies r f = rw (f, p.0, texts_are, copies_are, marked) (sym (copies_pair h g))
 
--- ---- and the lines taken hold: `lines`, their width and `ms` are handed over
+    pub none_waits : x ≡ 0 → (r : Bool) → r ≡ firsts (part_texts lines.width lines) ms → r ≡ copies_hold h g
+    none_waits z r f = rw (eq-eqb x 0 z) at (are_copies r f)
 
-module _ (h g lines ms : List ℕ) (w : ℕ) (b : lines ≡ body h) (d : w ≡ width_of h) (e : ms ≡ paired (texts_of h) (copies_of h g)) where
-  pub marks_room : length ms * w ≤ length lines
-  marks_room = rw (b, d, length_marked h g ms e) (lines_room h)
+    pub some_wait : (x ≡ 0 → ⊥) → eqb x 0 ≡ copies_hold h g
+    some_wait z = ne_eqb x 0 z ∙ (rw (ne_eqb x 0 z) at (are_copies (firsts (part_texts lines.width lines) ms) refl))
 
-  module _ (p : copies_hold h g ≡ true) where
-    are_marks : ms ≡ marks_of h g
-    are_marks = e ∙ pair_marks h g (sym (copies_pair h g) ∙ p)
+-- ---- and the lines taken hold: the lines are handed over as parts, and ms are the marks
 
-    are_taken : pick good ms (chop w (length ms) lines) ≡ taken_by h g
-    unfolding taken_by lines_of
-    are_taken = rw (length_marked h g ms e, b, d, are_marks)
+-- where the copies are the lines left, what was written are the marks
+pub are_marks : (h g ms : List ℕ) → ms ≡ paired (texts_of h) (copies_of h g) → copies_hold h g ≡ true → ms ≡ marks_of h g
+are_marks h g ms e p = e ∙ pair_marks h g (sym (copies_pair h g) ∙ p)
 
-  -- c says whether the copies are the lines left, t counts the marks 0, and u, d and q are what the other tests said
-  pub all_hold : (c : Bool) → c ≡ copies_hold h g → (n : ℕ) → n ≡ answers_in h g → (t : ℕ) → t ≡ tally good ms
-      → (u : Bool) → u ≡ eqb (number (taken_of g)) t && eqb (number (rejected_of g)) n
-      → (d : Bool) → d ≡ distinct (map pan_of (pick good ms (chop w (length ms) lines)))
-      → (q : Bool) → q ≡ each (line_holds h) (pick good ms (chop w (length ms) lines))
-      → c && u && d && q ≡ lines_hold h g
-  unfolding lines_hold counts_hold taken_hold
-  all_hold true ec n k t et u eu d ed q eq =
-      let c : t ≡ length (taken_by h g) = et ∙ rw (are_marks (sym ec)) (taken_count h g) in
-      and_assoc u d q ∙ rw (eu, ed, eq, are_taken (sym ec), c, k, ← ec)
-  all_hold false ec n k t et u eu d ed q eq = rw (← ec)
+module _ (h g ms : List ℕ) (e : ms ≡ marks_of h g) where
+  pub marks_each : length ms ≡ lines_in h
+  unfolding marks_of texts_of
+  marks_each = rw e (length_marks (texts_of h) (copies_of h g) ∙ length-map (lines_of h) (text (width_of h)) ∙ length_lines h)
+
+  pub are_taken : (lines : Parts) → Lines h lines → pick good ms (all_of lines) ≡ taken_by h g
+  unfolding taken_by lines_of
+  are_taken lines b = rw (b.0, b.1, b.2, e)
+
+  pub count_is : tally good ms ≡ length (taken_by h g)
+  count_is = rw e (taken_count h g)

@@ -3,7 +3,7 @@
 use Rattle.std.specs.Prelude.{ℕ, List, length}
 use Rattle.answers.specs.Layout.{answers_in}
 use Rattle.receipts.specs.Receipt.{taken_by}
-use Rattle.provider.specs.declared.Counted.{Counted}
+use Rattle.provider.specs.Counted.{Counted}
 
 -- a stop has zero counts
 unfoldable pub stop_counts : ℕ → Counted

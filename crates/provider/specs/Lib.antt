@@ -1,3 +1,4 @@
+pub mod Counted
 pub mod Answer
 pub mod Promises
 pub mod laws

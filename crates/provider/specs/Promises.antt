@@ -2,11 +2,8 @@
 use Rattle.std.specs.Prelude.{◌≡◌, Bool, List, ℕ}
 use Rattle.pairing.specs.Backwards.{paired}
 use Rattle.receipts.specs.Receipt.{texts_of, copies_of, receipt_holds}
-use Rattle.provider.specs.declared.Counted.{Counted}
-use Rattle.provider.specs.Answer.{stop_counts, success_counts}
-
-abbrev pub Refused : ℕ → Counted → Type 0
-Refused number r = r ≡ stop_counts number
+use Rattle.provider.specs.Counted.{Counted}
+use Rattle.provider.specs.Answer.{success_counts}
 
 -- of an HGC that holds; the marks say which lines were taken
 abbrev pub Count : List ℕ → List ℕ → List ℕ → Counted → Type 0

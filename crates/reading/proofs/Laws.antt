@@ -2,10 +2,10 @@
 use mathlib.Core.Path.{◌≡◌, refl, sym, ap, ◌∙◌}
 use mathlib.Core.Bool.{Bool, true, false, ◌||◌, false≢true}
 use mathlib.Core.List.{List, [], map}
-use Prim.Native.Nat.{ℕ, zero, suc, ◌+◌, ◌*◌, ◌-◌, ◌≤◌, ◌<◌}
+use Prim.Native.Nat.{ℕ, zero, suc, ◌+◌, ◌-◌, ◌≤◌, ◌<◌}
 use native.Mathlib.Omega.{arith}
 use lib.Dec.{leb}
-use lib.ListN.{length, get_or, get_or-map}
+use lib.ListN.{get_or, get_or-map}
 use lib.Seq.{take-nil, drop-nil}
 use borrow.Author.Tests.{leb-true}
 use Rattle.theory.specs.Text.{bytes}
@@ -17,9 +17,10 @@ use Rattle.theory.specs.laws.Each.{each_at}
 use Rattle.theory.specs.Walk.{each}
 use Rattle.theory.specs.laws.Walk.{each_passes}
 use Rattle.theory.specs.Parts.{chop, part_at}
-use Rattle.theory.specs.laws.Parts.{part_fits, length_chop}
+use Rattle.theory.specs.laws.Parts.{length_chop}
 use Rattle.theory.specs.laws.Join.{get_d_chop}
 use Rattle.theory.specs.Pick.{bad}
+use Rattle.texts.specs.declared.parts.Parts.{Parts}
 use Rattle.texts.specs.Field.{field, listed}
 use Rattle.numbers.specs.Number.{number_after, number}
 use Rattle.hgv.specs.Layout.{width_of}
@@ -28,7 +29,8 @@ use Rattle.pairing.specs.laws.Telling.{told_at, told_left}
 use Rattle.answers.specs.Layout.{answers_in, behind_head, answers_of, reason_of}
 use Rattle.receipts.specs.Receipt.{reason_holds}
 use Rattle.reading.specs.ReadBack.{reasons_of}
-use Rattle.answers.specs.laws.Layout.{answers_room, answers_are}
+use Rattle.answers.specs.Promises.{Lines}
+use Rattle.answers.specs.laws.Layout.{lines_are}
 
 -- ---- a reason
 
@@ -54,26 +56,23 @@ unfolding field number number_after
 reason_none w = rw (drop-nil {A = ℕ} (w - 1), take-nil {A = ℕ} (w + 1 + 1 - w))
 
 -- the line at the place k, as the code has it
-module _ (h g lines : List ℕ) (e : lines ≡ behind_head g) (v : ℕ) (d : v ≡ answer_length (width_of h)) (k : ℕ) (l : k < answers_in h g) where
-  pub line_fits : k * v + v ≤ length lines
-  line_fits = part_fits v (answers_in h g) k (length lines) (answers_room h g lines v (answers_in h g) e d refl) l
+module _ (h g : List ℕ) (lines : Parts) (e : Lines h g lines) (k : ℕ) (l : k < lines.count)
+    (a f : List ℕ) (w : ℕ) (ea : a ≡ part_at lines.width k lines.block.now) (ew : w ≡ width_of h) (ef : f ≡ field w (w + 2 - 1) a) (n : ℕ) (en : n ≡ number f) where
+  line_is : a ≡ get_or (answers_of h g) k []
+  line_is = ea ∙ sym (rw (← lines_are h g lines e) (get_d_chop lines.width lines.count lines.block.now k l))
 
-  module _ (a f : List ℕ) (w : ℕ) (ea : a ≡ part_at v k lines) (ew : w ≡ width_of h) (ef : f ≡ field w (w + 2 - 1) a) (n : ℕ) (en : n ≡ number f) where
-    line_is : a ≡ get_or (answers_of h g) k []
-    line_is = ea ∙ sym (rw (← answers_are h g lines v (answers_in h g) e d refl) (get_d_chop v (answers_in h g) lines k l))
+  value : n ≡ number (reason_of (width_of h) (get_or (answers_of h g) k []))
+  value = let z : width_of h + 2 - 1 ≡ width_of h + 1 = omega arith in en ∙ ap number (ef ∙ rw (line_is, ew, z))
 
-    value : n ≡ number (reason_of (width_of h) (get_or (answers_of h g) k []))
-    value = let z : width_of h + 2 - 1 ≡ width_of h + 1 = omega arith in en ∙ ap number (ef ∙ rw (line_is, ew, z))
+  pub reason_fits : each (reason_holds (width_of h)) (answers_of h g) ≡ true → n ≤ 12
+  unfolding answers_of
+  reason_fits q = rw value (reason_most _ _ (each_at (each_passes (reason_holds (width_of h)) (answers_of h g) q) k [] (omega (arith, e.2, length_chop (answer_length (width_of h)) (answers_in h g) (behind_head g)))))
 
-    pub reason_fits : each (reason_holds (width_of h)) (answers_of h g) ≡ true → n ≤ 12
-    unfolding answers_of
-    reason_fits q = rw value (reason_most _ _ (each_at (each_passes (reason_holds (width_of h)) (answers_of h g) q) k [] (omega (arith, length_chop (answer_length (width_of h)) (answers_in h g) (behind_head g)))))
-
-    pub reason_told : (m : ℕ) → (m ≡ 0 → ⊥) → n ≡ told_at m (reasons_of h g) k
-    unfolding reasons_of
-    reason_told m z =
-        let f : List ℕ → ℕ = λ a. number (reason_of (width_of h) a) in
-        value ∙ sym (told_left m (reasons_of h g) k z ∙ ap (λ (x : ℕ). get_or (map f (answers_of h g)) k x) (sym (reason_none (width_of h))) ∙ get_or-map f (answers_of h g) k [])
+  pub reason_told : (m : ℕ) → (m ≡ 0 → ⊥) → n ≡ told_at m (reasons_of h g) k
+  unfolding reasons_of
+  reason_told m z =
+      let f : List ℕ → ℕ = λ a. number (reason_of (width_of h) a) in
+      value ∙ sym (told_left m (reasons_of h g) k z ∙ ap (λ (x : ℕ). get_or (map f (answers_of h g)) k x) (sym (reason_none (width_of h))) ∙ get_or-map f (answers_of h g) k [])
 
 -- ---- the mark of a line that is left
 

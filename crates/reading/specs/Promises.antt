@@ -1,6 +1,6 @@
 -- What the public function of this crate promises. Assumes nothing.
 use Rattle.std.specs.Prelude.{◌≡◌, List, ℕ}
-use Rattle.provider.specs.declared.Counted.{Counted}
+use Rattle.provider.specs.Counted.{Counted}
 use Rattle.reading.specs.ReadBack.{read_answer, verdicts_after}
 
 -- the answer, and the verdict block after it

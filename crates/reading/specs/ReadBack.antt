@@ -11,7 +11,7 @@ use Rattle.numbers.specs.Number.{number}
 use Rattle.pairing.specs.Pairing.{told}
 use Rattle.answers.specs.Layout.{answers_of, reason_of}
 use Rattle.receipts.specs.Receipt.{marks_of, receipt_holds}
-use Rattle.provider.specs.declared.Counted.{Counted}
+use Rattle.provider.specs.Counted.{Counted}
 use Rattle.provider.specs.Answer.{stop_counts, success_counts}
 
 -- the reasons as numbers

@@ -1,3 +1,4 @@
+pub mod Swept
 pub mod Sweep
 pub mod Promises
 pub mod laws

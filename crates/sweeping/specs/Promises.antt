@@ -1,6 +1,6 @@
 -- What the public function of this crate promises. Assumes nothing.
 use Rattle.std.specs.Prelude.{◌≡◌, List, ℕ}
-use Rattle.sweeping.specs.declared.Swept.{Swept}
+use Rattle.sweeping.specs.Swept.{Swept}
 use Rattle.sweeping.specs.Sweep.{sweep_answer, register_swept}
 
 -- of a register, at a time: the answer, and the register after it

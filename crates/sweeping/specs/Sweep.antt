@@ -14,7 +14,7 @@ use Rattle.times.specs.Order.{earlier}
 use Rattle.columns.specs.Columns.{valid_to}
 use Rattle.slots.specs.Slots.{slots_in, records}
 use Rattle.register.specs.Register.{in_order}
-use Rattle.sweeping.specs.declared.Swept.{Swept}
+use Rattle.sweeping.specs.Swept.{Swept}
 
 -- a record whose end is not zeros and not later than t
 unfoldable pub ended : List ℕ → List ℕ → Bool

@@ -1,6 +1,6 @@
 -- What the public function of this crate promises. Assumes nothing.
 use Rattle.std.specs.Prelude.{◌≡◌, List, ℕ}
-use Rattle.provider.specs.declared.Counted.{Counted}
+use Rattle.provider.specs.Counted.{Counted}
 use Rattle.updating.specs.Sent.{Sent}
 use Rattle.updating.specs.Update.{update_answer, copy_after}
 

@@ -13,7 +13,7 @@ use Rattle.slots.specs.Slots.{slots_in, records}
 use Rattle.holdings.specs.Holdings.{holdings}
 use Rattle.answers.specs.Layout.{list_of}
 use Rattle.receipts.specs.Receipt.{taken_by}
-use Rattle.provider.specs.declared.Counted.{Counted}
+use Rattle.provider.specs.Counted.{Counted}
 use Rattle.provider.specs.Answer.{stop_counts, success_counts}
 use Rattle.updating.specs.Sent.{Sent}
 use Rattle.copies.specs.Copy.{copy_stops}

@@ -15,7 +15,7 @@ use Rattle.offsets.specs.Offset.{utc, utc_holds}
 use Rattle.copies.specs.Copy.{copy_stops}
 use Rattle.answers.specs.Layout.{list_of, reception_of}
 use Rattle.receipts.specs.Receipt.{taken_by, receipt_holds}
-use Rattle.provider.specs.declared.Counted.{Counted}
+use Rattle.provider.specs.Counted.{Counted}
 use Rattle.provider.specs.Answer.{stop_counts, success_counts}
 use Rattle.updating.specs.Sent.{Sent}
 

@@ -2,27 +2,23 @@
 use mathlib.Core.Path.{◌≡◌, refl, sym, ◌∙◌}
 use mathlib.Core.Bool.{Bool, true, false}
 use mathlib.Core.List.{List, [], ◌∷◌, ◌++◌, map, append_assoc, append-nil, map-append}
-use Prim.Native.Nat.{ℕ, ◌+◌, ◌*◌, ◌%◌, ◌≤◌, ◌<◌}
+use Prim.Native.Nat.{ℕ, suc, ◌+◌, ◌*◌, ◌%◌, ◌≤◌, ◌<◌}
 use native.Mathlib.Omega.{arith}
 use lib.Dec.{eqb, leb}
-use lib.ListN.{length, drop}
-use lib.Seq.{drop-length}
-use borrow.Author.Tests.{leb-true, lt-ltb, le-ltb}
+use lib.ListN.{length, take, drop, get_or}
+use lib.Seq.{drop-length, take-suc, take_all}
+use borrow.Author.Tests.{leb-true, ne_eqb}
 use Rattle.theory.specs.Text.{bytes}
-use Rattle.theory.specs.laws.Truth.{and_left, and_none, joined, joined_each}
+use Rattle.theory.specs.laws.Truth.{joined, joined_each}
 use Rattle.theory.specs.laws.Each.{each_head, each_tail}
-use Rattle.theory.specs.First.{choose}
 use Rattle.theory.specs.laws.Stopped.{at_stop, at_success}
-use Rattle.theory.specs.Walk.{each}
-use Rattle.theory.specs.Parts.{chop, part_at}
-use Rattle.theory.specs.laws.Parts.{part_fits, length_part}
 use Rattle.theory.specs.Join.{flat}
-use Rattle.theory.specs.laws.Join.{flat_append, length_flat, chop_snoc}
+use Rattle.theory.specs.laws.Join.{flat_append, length_flat}
 use Rattle.sizes.specs.Sizes.{header_length, line_length, footer_length, lines_most}
 use Rattle.texts.specs.Field.{line_end}
 use Rattle.texts.specs.laws.Pieces.{length_pieces}
 use Rattle.writing.specs.Put.{put_field}
-use Rattle.writing.specs.laws.Laid.{Laid, laid_start, laid_next, laid_length, laid_front, laid, all_done, then, in_turn}
+use Rattle.writing.specs.laws.Laid.{Laid, laid_start, laid_next, laid_front, laid, all_done, then, in_turn}
 use Rattle.numbers.specs.Number.{decimal, zeros}
 use Rattle.numbers.specs.laws.Number.{length_decimal, length_zeros}
 use Rattle.issuers.specs.Rows.{rows_hold, known}
@@ -31,12 +27,20 @@ use Rattle.frames.specs.laws.Frames.{length_foot}
 use Rattle.lines.specs.Rules.{line_fault}
 use Rattle.accounts.specs.Account.{account_length, sender_length, account_line}
 use Rattle.accounts.specs.laws.Account.{length_line}
-use Rattle.writer.specs.declared.Written.{Written}
+use Rattle.writer.specs.Written.{told}
+use Rattle.writer.specs.laws.Outcomes.{told_refused}
+use Rattle.std.specs.Prelude.{◌≢◌, Result, Ok, Err}
+use Rattle.std.specs.Result.{is_ok}
+use Rattle.rules.specs.declared.reason.Reason.{Reason}
+use Rattle.rules.specs.declared.refusal.Refusal.{Refusal}
+use Rattle.rules.specs.declared.refusal.Refusal.TheVariants as refusal
+use Rattle.rules.specs.Numbers.{reason_number, refusal_number, verdict_number, required}
+use Rattle.rules.specs.laws.Numbers.{reason_some, refusal_some, broken}
 use Rattle.writer.specs.Given.{Given}
 use Rattle.writer.specs.Hgv.{accounts_in, accounts_of, list_of, list_texts, claim_texts, head_of, lines_for, file_of, file_length, blocks_hold, faultless_line, pans_apart, write_number, unwritten, written_whole, write_answer, out_written, out_after}
 use Rattle.writer.specs.Promises.{WriteHgv}
 use Rattle.writer.specs.laws.Stops.{accounts_hold, accounts_number, headed, number_headless, number_headed, given_holds_lem, accounts_clear}
-use Rattle.writer.specs.laws.Kept.{Kept, kept, sender_length_lem, date_length, previous_length, creation_length}
+use Rattle.writer.specs.laws.Kept.{Kept, kept, sized, sender_length_lem, date_length, previous_length, creation_length}
 use Rattle.writer.specs.laws.Built.{length_list, names_wide, claims_wide, each_line_for, length_lines_for, length_file}
 
 -- ---- a line by itself
@@ -48,6 +52,11 @@ line_alone sender a z l e n s k =
     let f : List ℕ = account_line sender a in
     let q : length f ≡ length z = m ∙ sym n in
     laid_front (line_length + 1) f z l (laid 1 (line_length + 1) f z l e (omega arith) (omega arith) (omega arith)) ∙ rw (q, drop-length z) (append-nil f)
+
+-- a line that breaks no rule has the verdict 0
+pub ok_is : (r : Result Unit Reason) → is_ok r ≡ eqb (verdict_number r) 0
+ok_is (Ok u) = refl
+ok_is (Err e) = sym (ne_eqb (reason_number e) 0 (reason_some e))
 
 pub faultless_is : (rows sender a z l : List ℕ) (v : ℕ) → l ≡ put_field 1 (account_line sender a) z → length z ≡ line_length → length sender ≡ sender_length → length a ≡ account_length
     → v ≡ line_fault rows sender l → eqb v 0 ≡ faultless_line rows sender a
@@ -93,75 +102,41 @@ claims_written count version creation s₀ s₁ s₂ s₃ s₄ s₅ s₆ r c e�
 
 -- ---- the lines: those of the first i accounts stand behind the header; o is the buffer before
 
-unfoldable pub Lined : List ℕ → List ℕ → List ℕ → ℕ → List ℕ → Type 0
-Lined sender accounts o i s = Laid (header_length + 1) (header_length + i * line_length + 1) (flat (map (account_line sender) (chop account_length i accounts))) o s
+unfoldable pub Lined : List ℕ → List (List ℕ) → List ℕ → ℕ → List ℕ → Type 0
+Lined sender accounts o i s = Laid (header_length + 1) (header_length + i * line_length + 1) (flat (map (account_line sender) (take i accounts))) o s
 
-module _ (sender accounts o : List ℕ) where
+module _ (sender : List ℕ) (accounts : List (List ℕ)) (o : List ℕ) where
   pub lined_start : header_length ≤ length o → Lined sender accounts o 0 o
-  unfolding Lined flat chop
+  unfolding Lined flat
   lined_start r = laid_start (header_length + 1) o (omega arith) (omega arith)
 
   module _ (i : ℕ) (s : List ℕ) (v : Lined sender accounts o i s) where
-    pub lined_length : length s ≡ length o
+    pub lined_end : length accounts ≤ i → i ≤ length accounts → s ≡ put_field (header_length + 1) (flat (map (account_line sender) accounts)) o
     unfolding Lined
-    lined_length = laid_length (header_length + 1) (header_length + i * line_length + 1) _ o s v
+    lined_end h k = rw (← take_all i accounts h) v.is
 
-    pub lined_end : (n : ℕ) → n ≤ i → i ≤ n → s ≡ put_field (header_length + 1) (flat (map (account_line sender) (chop account_length n accounts))) o
-    unfolding Lined
-    lined_end n h k = let e : i ≡ n = omega arith in rw (← e) v.is
-
-    next_line : flat (map (account_line sender) (chop account_length (i + 1) accounts)) ≡ flat (map (account_line sender) (chop account_length i accounts)) ++ account_line sender (part_at account_length i accounts)
+    next_line : (d : List ℕ) → i < length accounts → flat (map (account_line sender) (take (i + 1) accounts)) ≡ flat (map (account_line sender) (take i accounts)) ++ account_line sender (get_or accounts i d)
     unfolding flat
-    next_line =
-        rw (chop_snoc account_length i accounts, map-append (account_line sender) (chop account_length i accounts) (part_at account_length i accounts ∷ []), flat_append, append-nil (account_line sender (part_at account_length i accounts)))
+    next_line d h =
+        let on : i + 1 ≡ suc i = omega arith in
+        rw (on, take-suc accounts i d h, map-append (account_line sender) (take i accounts) (get_or accounts i d ∷ []), flat_append, append-nil (account_line sender (get_or accounts i d)))
 
-    pub lined_turn : (n : ℕ) → i < n → header_length + n * line_length ≤ length o → n * account_length ≤ length accounts → length sender ≡ sender_length
-        → (a : List ℕ) → a ≡ part_at account_length i accounts → (s' : List ℕ) → s' ≡ put_field (header_length + i * line_length + 1) (account_line sender a) s → Lined sender accounts o (i + 1) s'
+    -- d is what stands where there is no account
+    pub lined_turn : (d : List ℕ) → i < length accounts → header_length + length accounts * line_length ≤ length o → length sender ≡ sender_length
+        → length (get_or accounts i d) ≡ account_length → (s' : List ℕ) → s' ≡ put_field (header_length + i * line_length + 1) (account_line sender (get_or accounts i d)) s → Lined sender accounts o (i + 1) s'
     unfolding Lined
-    lined_turn n h r w k a p s' e =
-        let m : length (account_line sender (part_at account_length i accounts)) ≡ line_length = length_line (part_at account_length i accounts) (length_part account_length i accounts (part_fits account_length n i (length accounts) w h)) sender k in
-        rw next_line
-        (laid_next (header_length + 1) (header_length + i * line_length + 1) _ o s v (account_line sender (part_at account_length i accounts)) s' (header_length + (i + 1) * line_length + 1) (e ∙ rw p) (omega arith) (omega arith))
+    lined_turn d h r k l s' e =
+        let m : length (account_line sender (get_or accounts i d)) ≡ line_length = length_line (get_or accounts i d) l sender k in
+        rw (next_line d h)
+        (laid_next (header_length + 1) (header_length + i * line_length + 1) _ o s v (account_line sender (get_or accounts i d)) s' (header_length + (i + 1) * line_length + 1) e (omega arith) (omega arith))
 
--- ---- the rules, one after the other
+-- ---- the accounts
 
-module _ (sender rows accounts : List ℕ) (room : ℕ) where
-  abbrev blocks : Bool
-  blocks = blocks_hold sender rows accounts
-
-  abbrev faultless_all : Bool
-  faultless_all = each (faultless_line rows sender) (chop account_length (accounts_in accounts) accounts)
-
-  abbrev number : ℕ
-  number = accounts_number sender rows accounts room
-
-  pub blocks_fail : blocks ≡ false → 61 ≡ number
-  unfolding accounts_number accounts_hold choose
-  blocks_fail h = rw h
-
-  pub lines_fail : faultless_all ≡ false → 61 ≡ number
-  unfolding accounts_number accounts_hold accounts_of choose
-  lines_fail h = rw (and_none blocks faultless_all h)
-
-  module _ (h : blocks ≡ true) where
-    pub blocks_few : accounts_in accounts ≤ lines_most
-    unfolding blocks_hold joined
-    blocks_few =
-        leb-true (accounts_in accounts) lines_most
-        (each_head (each_tail (each_tail (each_tail (joined_each (rows_hold rows) (known rows sender ∷ eqb (length accounts % account_length) 0 ∷ leb (accounts_in accounts) lines_most ∷ []) h)))))
-
-    module _ (k : faultless_all ≡ true) where
-      pub pans_fail : pans_apart accounts ≡ false → 62 ≡ number
-      unfolding accounts_number accounts_hold accounts_of choose
-      pans_fail l = rw (h, k, l)
-
-      pub room_fails : pans_apart accounts ≡ true → room < file_length (accounts_in accounts) → 63 ≡ number
-      unfolding accounts_number accounts_hold accounts_of choose
-      room_fails l m = rw (h, k, l, lt-ltb room (file_length (accounts_in accounts)) m)
-
-      pub none_fails : pans_apart accounts ≡ true → file_length (accounts_in accounts) ≤ room → 0 ≡ number
-      unfolding accounts_number accounts_hold accounts_of choose
-      none_fails l m = rw (h, k, l, le-ltb room (file_length (accounts_in accounts)) m)
+pub blocks_few : (sender rows accounts : List ℕ) → blocks_hold sender rows accounts ≡ true → accounts_in accounts ≤ lines_most
+unfolding blocks_hold joined
+blocks_few sender rows accounts h =
+    leb-true (accounts_in accounts) lines_most
+    (each_head (each_tail (each_tail (each_tail (joined_each (rows_hold rows) (known rows sender ∷ eqb (length accounts % account_length) 0 ∷ leb (accounts_in accounts) lines_most ∷ []) h)))))
 
 joined_parts : (names claims : List (List ℕ)) (ls end : List ℕ) → flat (flat names ∷ flat claims ∷ ls ∷ end ∷ []) ≡ flat (names ++ claims) ++ (ls ++ end)
 unfolding flat
@@ -176,15 +151,15 @@ in_front_lem f s = let z : 0 + length f ≡ length f = omega arith in rw z
 pub file_written : (g : Given) → Kept g → (s₀ s₁ s₂ s₃ s₄ : List ℕ) → file_length (accounts_in g.accounts) ≤ length s₀
     → s₁ ≡ put_field 1 (flat (list_texts g.sender g.date g.number g.previous)) s₀
     → s₂ ≡ put_field 52 (flat (claim_texts (accounts_in g.accounts) g.creation g.version)) s₁
-    → s₃ ≡ put_field (header_length + 1) (flat (map (account_line g.sender) (chop account_length (accounts_in g.accounts) g.accounts))) s₂
+    → s₃ ≡ put_field (header_length + 1) (flat (map (account_line g.sender) (accounts_of g.accounts))) s₂
     → s₄ ≡ put_field (header_length + accounts_in g.accounts * line_length + 1) foot s₃
     → s₄ ≡ out_written g s₀
-unfolding out_written file_of head_of lines_for accounts_of
+unfolding out_written file_of head_of lines_for
 file_written g k s₀ s₁ s₂ s₃ s₄ r e₁ e₂ e₃ e₄ =
     let n : ℕ = accounts_in g.accounts in
     let names : List (List ℕ) = list_texts g.sender g.date g.number g.previous in
     let claims : List (List ℕ) = claim_texts n g.creation g.version in
-    let ls : List (List ℕ) = map (account_line g.sender) (chop account_length n g.accounts) in
+    let ls : List (List ℕ) = map (account_line g.sender) (accounts_of g.accounts) in
     let l₁ : length (flat names) ≡ 51 = length_pieces (names_wide g.sender g.date g.number g.previous (sender_length_lem g k) (date_length g k) (previous_length g k)) in
     let l₂ : length (flat claims) ≡ 77 = length_pieces (claims_wide n g.creation g.version (creation_length g k)) in
     let l₃ : length (flat ls) ≡ n * line_length = length_flat line_length (each_line_for g k) ∙ rw (length_lines_for g k) in
@@ -195,46 +170,52 @@ file_written g k s₀ s₁ s₂ s₃ s₄ r e₁ e₂ e₃ e₄ =
     (then {q = header_length + n * line_length + footer_length + 1} e₄ (omega (arith, length_foot)) all_done)))) (omega arith) (omega arith)
     ∙ rw (joined_parts names claims (flat ls) foot) (in_front_lem (flat (names ++ claims) ++ (flat ls ++ foot)) s₀)
 
--- there are no more accounts than a file has lines
-pub few_left : (sender rows accounts : List ℕ) (room stop : ℕ) → stop ≡ accounts_number sender rows accounts room → stop ≡ 0 → accounts_in accounts ≤ lines_most
-unfolding accounts_hold
-few_left sender rows accounts room stop e z =
-    blocks_few sender rows accounts room (and_left (blocks_hold sender rows accounts) (each (faultless_line rows sender) (accounts_of accounts)) (accounts_clear sender rows accounts room (sym e ∙ z)).0)
-
 -- the buffer has room
-pub room_left : (sender rows accounts : List ℕ) (room stop : ℕ) → stop ≡ accounts_number sender rows accounts room → stop ≡ 0 → file_length (accounts_in accounts) ≤ room
-room_left sender rows accounts room stop e z = (accounts_clear sender rows accounts room (sym e ∙ z)).1.1
+pub room_left : (sender rows accounts : List ℕ) (room : ℕ) → 0 ≡ accounts_number sender rows accounts room → file_length (accounts_in accounts) ≤ room
+room_left sender rows accounts room e = (accounts_clear sender rows accounts room (sym e)).1.1
 
 -- ---- the refusals, and success
 
 module _ (g : Given) (out : List ℕ) where
-  refused_by : (n : ℕ) → write_number g out ≡ n → (n ≡ 0 → ⊥) → (r : Written) → r ≡ unwritten n → WriteHgv g out r out
+  refused_by : (f : Refusal) → write_number g out ≡ refusal_number f → WriteHgv g out (told (Err f)) out
   unfolding WriteHgv write_answer out_after
-  refused_by n e z r k = (k ∙ sym (rw e (at_stop n _ (unwritten n) z)), sym (rw e (at_stop n _ out z)))
+  refused_by f e =
+      let z = refusal_some f in
+      (told_refused f ∙ sym (rw e (at_stop (refusal_number f) _ (unwritten (refusal_number f)) z)), sym (rw e (at_stop (refusal_number f) _ out z)))
 
-  pub headless : headed g out ≡ false → (r : Written) → r ≡ unwritten 61 → WriteHgv g out r out
-  headless h = refused_by 61 (number_headless g out h) (λ z. omega arith)
+  -- a sender of another length is none
+  unheaded : length g.sender ≢ sender_length → (h : Bool) → h ≡ headed g out → headed g out ≡ false
+  unheaded l true e = absurd (l (sized g.version g.sender g.date g.number g.previous g.creation (sym e)).of_sender)
+  unheaded l false e = sym e
 
-  module _ (h : headed g out ≡ true) (stop : ℕ) (e : stop ≡ accounts_number g.sender g.rows g.accounts (length out)) where
-    pub stopped : (stop ≡ 0 → ⊥) → (r : Written) → r ≡ unwritten stop → WriteHgv g out r out
-    stopped = refused_by stop (number_headed g out h ∙ sym e)
+  pub unsized : length g.sender ≢ sender_length → WriteHgv g out (told (Err refusal.Given)) out
+  unsized l = refused_by refusal.Given (number_headless g out (unheaded l (headed g out) refl))
 
-    module _ (z : stop ≡ 0) where
+  -- h says whether the header's fields keep their form
+  pub headless : (h : Bool) → h ≡ headed g out → (f : Refusal) → Err f ≡ required h refusal.Given → WriteHgv g out (told (Err f)) out
+  headless h e f k = let (z, x) = broken h refusal.Given f k in rw x (refused_by refusal.Given (number_headless g out (sym e ∙ z)))
+
+  module _ (h : headed g out ≡ true) where
+    pub stopped : (f : Refusal) → refusal_number f ≡ accounts_number g.sender g.rows g.accounts (length out) → WriteHgv g out (told (Err f)) out
+    stopped f e = refused_by f (number_headed g out h ∙ sym e)
+
+    module _ (e : 0 ≡ accounts_number g.sender g.rows g.accounts (length out)) where
       clear : (accounts_hold g.sender g.rows g.accounts ≡ true) × ((pans_apart g.accounts ≡ true) × (file_length (accounts_in g.accounts) ≤ length out))
-      clear = accounts_clear g.sender g.rows g.accounts (length out) (sym e ∙ z)
+      clear = accounts_clear g.sender g.rows g.accounts (length out) (sym e)
 
-      pub given_kept : Kept g
+      given_kept : Kept g
       given_kept = kept g (given_holds_lem g out h clear.0)
 
-      -- s₁ to s₄ are the buffer after each part
-      pub written : (s₁ s₂ s₃ s₄ : List ℕ)
+      -- a are the accounts, n of them, and s₁ to s₄ the buffer after each part
+      pub written : (n : ℕ) (a : List (List ℕ)) → n ≡ accounts_in g.accounts → a ≡ accounts_of g.accounts → (s₁ s₂ s₃ s₄ : List ℕ)
           → s₁ ≡ put_field 1 (flat (list_texts g.sender g.date g.number g.previous)) out
-          → s₂ ≡ put_field 52 (flat (claim_texts (accounts_in g.accounts) g.creation g.version)) s₁
-          → s₃ ≡ put_field (header_length + 1) (flat (map (account_line g.sender) (chop account_length (accounts_in g.accounts) g.accounts))) s₂
-          → s₄ ≡ put_field (header_length + accounts_in g.accounts * line_length + 1) foot s₃
-          → WriteHgv g out (record { number = 0; length = file_length (accounts_in g.accounts) }) s₄
+          → s₂ ≡ put_field 52 (flat (claim_texts n g.creation g.version)) s₁
+          → s₃ ≡ put_field (header_length + 1) (flat (map (account_line g.sender) a)) s₂
+          → s₄ ≡ put_field (header_length + n * line_length + 1) foot s₃
+          → WriteHgv g out (told (Ok (file_length n))) s₄
       unfolding WriteHgv write_answer out_after written_whole
-      written s₁ s₂ s₃ s₄ e₁ e₂ e₃ e₄ =
-          let n : write_number g out ≡ 0 = number_headed g out h ∙ sym e ∙ z in
+      written n a en ea s₁ s₂ s₃ s₄ e₁ e₂ e₃ e₄ =
+          let z : write_number g out ≡ 0 = number_headed g out h ∙ sym e in
           let m : length (file_of g) ≡ file_length (accounts_in g.accounts) = length_file g given_kept in
-          (sym (at_success (write_number g out) _ _ n ∙ rw m), file_written g given_kept out s₁ s₂ s₃ s₄ clear.1.1 e₁ e₂ e₃ e₄ ∙ sym (at_success (write_number g out) _ _ n))
+          let whole = file_written g given_kept out s₁ s₂ s₃ s₄ clear.1.1 e₁ (rw en at e₂) (rw ea at e₃) (rw en at e₄) in
+          (rw en (sym (at_success (write_number g out) _ _ z ∙ rw m)), whole ∙ sym (at_success (write_number g out) _ _ z))

@@ -21,7 +21,7 @@ use Rattle.header.specs.Header.{no_list}
 use Rattle.frames.specs.Frames.{foot}
 use Rattle.lines.specs.Rules.{line_fault}
 use Rattle.accounts.specs.Account.{account_length, account_pan, account_line}
-use Rattle.writer.specs.declared.Written.{Written}
+use Rattle.writer.specs.Written.{Written}
 use Rattle.writer.specs.Given.{Given}
 
 -- the accounts, of 100 bytes each, in their order

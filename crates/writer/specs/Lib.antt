@@ -1,4 +1,5 @@
 pub mod Given
+pub mod Written
 pub mod Hgv
 pub mod Promises
 pub mod laws

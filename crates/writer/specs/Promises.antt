@@ -1,6 +1,6 @@
 -- What the public function of this crate promises. Assumes nothing.
 use Rattle.std.specs.Prelude.{◌≡◌, List, ℕ}
-use Rattle.writer.specs.declared.Written.{Written}
+use Rattle.writer.specs.Written.{Written}
 use Rattle.writer.specs.Given.{Given}
 use Rattle.writer.specs.Hgv.{write_answer, out_after}
 

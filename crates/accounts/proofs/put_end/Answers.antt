@@ -3,5 +3,4 @@ use Rattle.accounts.proofs.put_end.Goals as goal
 
 pub returns : goal.returns
 returns c =
-    let p = c.requires in
-    end_written _ _ _ p.0 p.1 _ _ _ _ c.put_column.ensures c.put_column-2.ensures c.put_field.ensures c.put_field-2.ensures
+    end_written _ _ _ c.requires c.told-a _ _ _ _ c.put_column.ensures c.put_column-2.ensures c.put_field.ensures c.put_field-2.ensures

@@ -7,4 +7,4 @@ pub returns-then-k-eq0 : goal.returns-then-k-eq0
 returns-then-k-eq0 c = sym (last_none _ _ _ c.if-k-eq0.true)
 
 pub returns : goal.returns
-returns c = last_is _ _ _ _ _ c.if-k-eq0.false _ c.part-copy.ensures _ c.have_same_text.ensures
+returns c = last_is _ _ _ _ _ _ c.if-k-eq0.false c.requires.1 _ c.part.ensures _ c.have_same_text.ensures

@@ -101,17 +101,17 @@ module _ (h g : List ℕ) where
       pub taken_made : Each (Makes (slot_of (stamp (list_of g) t))) (taken_by h g)
       taken_made = each_makes (stamp (list_of g) t) taken_storable
 
--- as the code learns it: r says whether the HGC holds, and ms are its marks
-module _ (h g : List ℕ) (r : Bool) (er : r ≡ receipt_holds h g) (k : not r ≡ false) where
-  pub holds : receipt_holds h g ≡ true
-  holds = sym er ∙ not-false r k
+-- ms are what the pairing wrote beside an HGC that holds
+module _ (h g : List ℕ) (k : receipt_holds h g ≡ true) (ms : List ℕ) (em : ms ≡ paired (texts_of h) (copies_of h g)) where
+  pub marks_fit : ms ≡ marks_of h g
+  marks_fit = marks_are h g k ms em
 
-  module _ (ms : List ℕ) (em : ms ≡ paired (texts_of h) (copies_of h g)) where
-    pub marks_fit : ms ≡ marks_of h g
-    marks_fit = marks_are h g holds ms em
+  pub marks_each : length ms ≡ lines_in h
+  marks_each = ap length marks_fit ∙ length_marks_of h g
 
-    pub marks_each : length ms ≡ lines_in h
-    marks_each = ap length marks_fit ∙ length_marks_of h g
+  pub tell_fits : (each (reason_holds (width_of h)) (answers_of h g) ≡ true) × (tally bad ms ≤ answers_in h g)
+  tell_fits = (reasons_held h g k, omega (arith, left_count h g k ms marks_fit))
 
-    pub tell_fits : (each (reason_holds (width_of h)) (answers_of h g) ≡ true) × (tally bad ms ≤ answers_in h g)
-    tell_fits = (reasons_held h g holds, omega (arith, left_count h g holds ms marks_fit))
+-- an HGC that is not found wanting holds
+pub holds : (h g : List ℕ) (r : Bool) (er : r ≡ receipt_holds h g) (k : not r ≡ false) → receipt_holds h g ≡ true
+holds h g r er k = sym er ∙ not-false r k

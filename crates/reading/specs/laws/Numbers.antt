@@ -2,8 +2,9 @@
 -- what follows is written. Assumes nothing.
 use Rattle.std.specs.Prelude.{◌≡◌, refl, true, false, List, ℕ, ◌≤◌, ◌<◌, length}
 use Rattle.std.proofs.Math.Path.{sym}
+use Rattle.std.proofs.Common.{ltb-false}
 use borrow.Author.Tests.{not-false, lt-ltb, le-ltb}
-use Rattle.theory.specs.First.{None, more, first, choose}
+use Rattle.theory.specs.First.{None, more, none, first, choose}
 use Rattle.theory.specs.laws.First.{first_clear, numbered}
 use Rattle.theory.specs.laws.Stopped.{at_stop, at_success, by_first, by_second}
 use Rattle.hgv.specs.Layout.{lines_in, length_holds}
@@ -32,7 +33,7 @@ module _ (h g block : List ℕ) where
   read_file = by_first (hgv_stops h) (block_stops h g block) (files h)
 
   module _ (z : first (hgv_stops h) ≡ 0) where
-    read_behind : (n : ℕ) → n ≡ first (block_stops h g block) → n ≡ read
+    pub read_behind : (n : ℕ) → n ≡ first (block_stops h g block) → n ≡ read
     unfolding read_number
     read_behind = by_second (hgv_stops h) (block_stops h g block) (files h) z
 
@@ -47,6 +48,14 @@ module _ (h g block : List ℕ) where
     pub read_done : receipt_holds h g ≡ true → lines_in h ≤ length block → 0 ≡ read
     unfolding block_stops first choose
     read_done r l = read_behind 0 (sym (rw (r, le-ltb (length block) (lines_in h) l)))
+
+  -- neither 52 nor 53
+  pub block_clear : first (block_stops h g block) ≡ 0 → (receipt_holds h g ≡ true) × (lines_in h ≤ length block)
+  unfolding block_stops numbered
+  block_clear z = go (first_clear (block_stops h g block) refl z)
+    where
+      go : None (block_stops h g block) → (receipt_holds h g ≡ true) × (lines_in h ≤ length block)
+      go (more k (more l none)) = (not-false (receipt_holds h g) k, ltb-false (length block) (lines_in h) l)
 
   -- a stop
   module _ (n : ℕ) (e : n ≡ read) (k : n ≡ 0 → ⊥) where

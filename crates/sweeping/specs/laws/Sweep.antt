@@ -21,7 +21,7 @@ use Rattle.register.specs.Register.{in_order}
 use Rattle.upkeep.specs.Holds.{Holds}
 use Rattle.upkeep.specs.laws.Stays.{as_it_is}
 use Rattle.removing.specs.laws.Marks.{holds_without}
-use Rattle.sweeping.specs.declared.Swept.{Swept}
+use Rattle.sweeping.specs.Swept.{Swept}
 use Rattle.sweeping.specs.Sweep.{ended, going, staying, sweep_stops, sweep_number, sweep_answer, swept_bytes, register_swept}
 use Rattle.sweeping.specs.Promises.{Sweep}
 

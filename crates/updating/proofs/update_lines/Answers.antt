@@ -1,16 +1,13 @@
-use Rattle.updating.specs.Promises.{Update}
-use Rattle.updating.proofs.Steps.{update_not, said, marked}
-use mathlib.Core.Path.{ap}
-use mathlib.Core.Bool.{not}
+use Rattle.std.proofs.Common.{rules, sym, ◌∙◌}
+use Rattle.rules.specs.laws.Numbers.{held}
+use Rattle.updating.proofs.Steps.{not_sent, marked}
 use Rattle.updating.proofs.update_lines.Goals as goal
 
-pub returns-then-not-is_receipt-has_utc : goal.returns-then-not-is_receipt-has_utc
-unfolding Update
-returns-then-not-is_receipt-has_utc c =
-    update_not _ _ _ _ c.requires.few _ c.is_receipt.ensures.0 _ (rw c.reception-shown.ensures at c.has_utc.ensures) _ c.requires.clear (ap not c.if-not-is_receipt-has_utc.true) _ c.refused.ensures
+pub returns-in_err-require : goal.returns-in_err-require
+returns-in_err-require c = search (rules, not_sent)
 
 pub update_marked-requires : goal.update_marked-requires
 update_marked-requires c =
-    let held = c.is_receipt.ensures in
-    let k = (ap not c.if-not-is_receipt-has_utc.false) in
-    record { clear = c.requires.clear; said = said _ _ _ _ c.requires.few _ held.0 _ (rw c.reception-shown.ensures at c.has_utc.ensures) k; marked = marked _ _ _ held.0 _ k _ held.1; many = c.requires.many }
+    let x = c.is_sent.ensures in
+    let said = sym x.said ∙ held _ _ _ c.in_ok-require.ensures in
+    record { clear = c.requires.clear; said = said; marked = marked c.args.call.now.mode _ _ _ said _ x.marked; many = c.requires.many }

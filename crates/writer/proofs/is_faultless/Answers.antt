@@ -1,8 +1,7 @@
-use mathlib.Core.Path.{refl}
-use Rattle.writer.proofs.Laws.{faultless_is}
+use mathlib.Core.Path.{refl, ◌∙◌}
+use Rattle.writer.proofs.Laws.{ok_is, faultless_is}
 use Rattle.writer.proofs.is_faultless.Goals as goal
 
 pub returns : goal.returns
 returns c =
-    let p = c.requires in
-    faultless_is _ _ _ _ _ _ c.put_line.ensures refl p.0 p.1 c.line_fault.ensures
+    c.is_ok.ensures.value ∙ ok_is _ ∙ faultless_is _ _ _ _ _ _ c.put_line.ensures refl c.told-sender c.told-a c.line_fault.ensures

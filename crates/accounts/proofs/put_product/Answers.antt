@@ -1,7 +1,0 @@
-use Rattle.accounts.proofs.Laws.{product_written}
-use Rattle.accounts.proofs.put_product.Goals as goal
-
-pub returns : goal.returns
-returns c =
-    let p = c.requires in
-    product_written _ _ _ p.0 p.1 _ _ _ _ c.put_column.ensures c.put_column-2.ensures c.put_column-3.ensures c.put_field.ensures
