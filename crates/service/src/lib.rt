@@ -1,11 +1,11 @@
-// What Rust calls, on numbers and byte slices: the import. It hands on to the crate that does the work, and writes every
-// number that it is lent, zero at a stop. And the revision of all that Rust calls.
+//! What Rust calls, on numbers and byte slices: the import. It hands on to the crate that does the work, and writes every
+//! number that it is lent, zero at a stop. And the revision of all that Rust calls.
 #![tactic(auto)]
 
 ghost use Rattle.imports.specs.Handed.{handed};
 ghost use Rattle.service.specs.Promises.{GraftspindleImport, GraftspindleRevision};
 
-// The import of an HGV: 0 or the number of a stop; how many lines were taken and rejected, and the HGC's length.
+/// The import of an HGV: 0 or the number of a stop; how many lines were taken and rejected, and the HGC's length.
 #[unsafe(no_mangle)]
 pub extern "C" fn graftspindle_import(
     mode: u64,
@@ -21,15 +21,16 @@ pub extern "C" fn graftspindle_import(
 ) -> u64
     ensures { GraftspindleImport (handed mode reception.now offset rows.now hgv.now hgc.old) register.old result taken.new rejected.new length.new register.new hgc.new }
 {
-    let done = importer::import(mode, reception, offset, register, rows, hgv, hgc);
+    let answer = importer::import(mode, reception, offset, register, rows, hgv, hgc);
+    let (number, done) = imports::told(answer);
     *taken = done.taken;
     *rejected = done.rejected;
     *length = done.length;
-    done.number
+    number
 }
 
-// A name that is called with other arguments than before still links: so a number tells which arguments are meant. 2: the import
-// and the update take an offset. 1 was without, and had no function that tells it.
+/// A name that is called with other arguments than before still links: so a number tells which arguments are meant. 2: the import
+/// and the update take an offset. 1 was without, and had no function that tells it.
 #[unsafe(no_mangle)]
 pub extern "C" fn graftspindle_revision() -> u64
     ensures { GraftspindleRevision result }

@@ -1,11 +1,11 @@
-// What Rust calls, on numbers and slices: the import by an index that the caller lends. It hands on to the crate that does the
-// work, and writes every number that it is lent, zero at a stop.
+//! What Rust calls, on numbers and slices: the import by an index that the caller lends. It hands on to the crate that does the
+//! work, and writes every number that it is lent, zero at a stop.
 #![tactic(auto)]
 
 ghost use Rattle.imports.specs.Handed.{handed};
 ghost use Rattle.service_indexed.specs.Promises.{GraftspindleImportIndexed};
 
-// The import of an HGV: 0 or the number of a stop; how many lines were taken and rejected, and the HGC's length.
+/// The import of an HGV: 0 or the number of a stop; how many lines were taken and rejected, and the HGC's length.
 #[unsafe(no_mangle)]
 pub extern "C" fn graftspindle_import_indexed(
     mode: u64,
@@ -22,9 +22,10 @@ pub extern "C" fn graftspindle_import_indexed(
 ) -> u64
     ensures { GraftspindleImportIndexed index.old (handed mode reception.now offset rows.now hgv.now hgc.old) register.old result taken.new rejected.new length.new register.new hgc.new }
 {
-    let done = indexed::import_indexed(mode, reception, offset, register, rows, hgv, hgc, index);
+    let answer = indexed::import_indexed(mode, reception, offset, register, rows, hgv, hgc, index);
+    let (number, done) = imports::told(answer);
     *taken = done.taken;
     *rejected = done.rejected;
     *length = done.length;
-    done.number
+    number
 }

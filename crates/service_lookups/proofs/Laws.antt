@@ -8,8 +8,7 @@ use lib.Dec.{eqb}
 use lib.ListN.{length}
 use Rattle.theory.specs.First.{choose}
 use Rattle.sizes.specs.Sizes.{slot_length}
-use Rattle.lookups.specs.declared.Found.{Found}
-use Rattle.lookups.specs.Lookup.{found_at, pan_number, pan_place, plate_number, plate_place}
+use Rattle.lookups.specs.Lookup.{Found, found_at, pan_number, pan_place, plate_number, plate_place}
 use Rattle.lookups.specs.laws.Found.{at_number, at_place, pan_room, plate_room}
 use Rattle.service_lookups.specs.Stands.{start_of, pan_start, pan_slot_length, plate_start, plate_slot_length}
 use Rattle.service_lookups.specs.laws.Stands.{pan_size, plate_size}
@@ -37,20 +36,20 @@ module _ (b key : List ℕ) (found : Found) (e : found ≡ found_at (pan_number 
   pan_within = found_within (pan_number b key) (pan_place b key) found e b (pan_room b key)
 
   -- s is where the slot was said to start, and l how long it was said to be
-  pub pan_told : (s : ℕ) → s ≡ found.place * slot_length → (l : ℕ) → l ≡ choose (eqb found.number 0) slot_length 0
-      → (found.number ≡ pan_number b key) × ((s ≡ pan_start b key) × (l ≡ pan_slot_length b key))
+  pub pan_told : (v : ℕ) → v ≡ found.number → (s : ℕ) → s ≡ found.place * slot_length → (l : ℕ) → l ≡ choose (eqb found.number 0) slot_length 0
+      → (v ≡ pan_number b key) × ((s ≡ pan_start b key) × (l ≡ pan_slot_length b key))
   unfolding pan_start
-  pan_told s f l g =
+  pan_told v h s f l g =
       let n : found.number ≡ pan_number b key = at_number (pan_number b key) (pan_place b key) found e in
-      (n, (f ∙ found_start (pan_number b key) (pan_place b key) found e, g ∙ rw n (sym (pan_size b key))))
+      (h ∙ n, (f ∙ found_start (pan_number b key) (pan_place b key) found e, g ∙ rw n (sym (pan_size b key))))
 
 module _ (b p n t : List ℕ) (found : Found) (e : found ≡ found_at (plate_number b p n t) (plate_place b p n t)) where
   pub plate_within : found.place * slot_length ≤ length b
   plate_within = found_within (plate_number b p n t) (plate_place b p n t) found e b (plate_room b p n t)
 
-  pub plate_told : (s : ℕ) → s ≡ found.place * slot_length → (l : ℕ) → l ≡ choose (eqb found.number 0) slot_length 0
-      → (found.number ≡ plate_number b p n t) × ((s ≡ plate_start b p n t) × (l ≡ plate_slot_length b p n t))
+  pub plate_told : (v : ℕ) → v ≡ found.number → (s : ℕ) → s ≡ found.place * slot_length → (l : ℕ) → l ≡ choose (eqb found.number 0) slot_length 0
+      → (v ≡ plate_number b p n t) × ((s ≡ plate_start b p n t) × (l ≡ plate_slot_length b p n t))
   unfolding plate_start
-  plate_told s f l g =
+  plate_told v h s f l g =
       let m : found.number ≡ plate_number b p n t = at_number (plate_number b p n t) (plate_place b p n t) found e in
-      (m, (f ∙ found_start (plate_number b p n t) (plate_place b p n t) found e, g ∙ rw m (sym (plate_size b p n t))))
+      (h ∙ m, (f ∙ found_start (plate_number b p n t) (plate_place b p n t) found e, g ∙ rw m (sym (plate_size b p n t))))

@@ -1,7 +1,7 @@
 -- What the provider's functions called from Rust promise: that of `read_back` and `update`, by the number returned and the
 -- two numbers written. Assumes nothing.
 use Rattle.std.specs.Prelude.{List, ℕ}
-use Rattle.provider.specs.declared.Counted.{Counted}
+use Rattle.provider.specs.Counted.{Counted}
 use Rattle.reading.specs.Promises.{ReadBack}
 use Rattle.updating.specs.Sent.{Sent}
 use Rattle.updating.specs.Promises.{Update}

@@ -1,6 +1,6 @@
 -- What the sweep called from Rust promises: that of `sweep`, by the number returned and the number written. Assumes nothing.
 use Rattle.std.specs.Prelude.{List, ℕ}
-use Rattle.sweeping.specs.declared.Swept.{Swept}
+use Rattle.sweeping.specs.Swept.{Swept}
 use Rattle.sweeping.specs.Promises.{Sweep}
 
 -- the two numbers as `sweep` answers them

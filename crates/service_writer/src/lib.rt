@@ -1,10 +1,10 @@
-// What Rust calls to write a list: it hands on to the writer, and writes the length that it is lent, zero at a refusal.
+//! What Rust calls to write a list: it hands on to the writer, and writes the length that it is lent, zero at a refusal.
 #![tactic(auto)]
 
 ghost use Rattle.writer.specs.Given.{given};
 ghost use Rattle.service_writer.specs.Promises.{GraftspindleWrite};
 
-// An HGV of accounts of 100 bytes: 0 or the number of a refusal, and the length of what stands in front of `out`.
+/// An HGV of accounts of 100 bytes: 0 or the number of a refusal, and the length of what stands in front of `out`.
 #[unsafe(no_mangle)]
 pub extern "C" fn graftspindle_write(
     version: u64,
@@ -23,6 +23,10 @@ pub extern "C" fn graftspindle_write(
     let written = writer::write_hgv(
         version, sender, date, number, previous, creation, rows, accounts, out,
     );
-    *length = written.length;
-    written.number
+    let (stop, whole) = match written {
+        Ok(whole) => (0, whole),
+        Err(refusal) => (refusal.number(), 0),
+    };
+    *length = whole;
+    stop
 }

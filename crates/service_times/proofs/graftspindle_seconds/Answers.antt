@@ -1,17 +1,17 @@
 use mathlib.Core.Path.{◌≡◌, sym}
-use Rattle.times.specs.declared.Time.TheVariants.{Real, Unreal}
+use Rattle.std.specs.Prelude.{Some, None}
 use Rattle.times.specs.Seconds.{time_of}
 use Rattle.service_times.specs.Promises.{number_of, seconds_in}
 use Rattle.service_times.proofs.graftspindle_seconds.Goals as goal
 
-pub returns-in-Real : goal.returns-in-Real
+pub returns-in-Some : goal.returns-in-Some
 unfolding number_of seconds_in
-returns-in-Real c =
-    let e : time_of c.args.time.now ≡ Real c.in-Real.n = sym c.in-Real.ensures in
+returns-in-Some c =
+    let e : time_of c.args.time.now ≡ Some c.in-Some.n = sym c.in-Some.ensures in
     (sym (rw e), sym (rw e))
 
-pub returns-in-Unreal : goal.returns-in-Unreal
+pub returns-in-None : goal.returns-in-None
 unfolding number_of seconds_in
-returns-in-Unreal c =
-    let e : time_of c.args.time.now ≡ Unreal = sym c.in-Unreal.ensures in
+returns-in-None c =
+    let e : time_of c.args.time.now ≡ None = sym c.in-None.ensures in
     (sym (rw e), sym (rw e))

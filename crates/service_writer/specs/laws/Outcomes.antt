@@ -1,7 +1,7 @@
 -- Two outcomes of one call are one, for the function that Rust calls. Assumes nothing.
 use Rattle.std.specs.Prelude.{◌≡◌, List, ℕ}
 use Rattle.std.proofs.Common.{ap}
-use Rattle.writer.specs.declared.Written.{Written}
+use Rattle.writer.specs.Written.{Written}
 use Rattle.writer.specs.Given.{Given}
 use Rattle.writer.specs.laws.Outcomes.{write_hgv_one}
 use Rattle.service_writer.specs.Promises.{GraftspindleWrite}
