@@ -1,6 +1,6 @@
 -- The theorems whose statements are in specs/Demand3. Assumes nothing.
 use Rattle.std.specs.Prelude.{List, ℕ}
-use Rattle.imports.specs.declared.Imported.{Imported}
+use Rattle.imports.specs.Imported.{Imported}
 use Rattle.imports.specs.Handed.{Handed}
 use Rattle.importer.specs.Promises.{Import}
 use Rattle.demands.specs.History.{Entry, Answer, Event, his, entries, Ours, Replay}

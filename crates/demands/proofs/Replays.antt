@@ -12,16 +12,16 @@ use Rattle.sizes.specs.Sizes.{slots_most}
 use Rattle.slots.specs.Slots.{slots_in, records}
 use Rattle.register.specs.Register.{in_order}
 use Rattle.upkeep.specs.Holds.{Holds}
-use Rattle.imports.specs.declared.Imported.{Imported}
+use Rattle.imports.specs.Imported.{Imported}
 use Rattle.importer.specs.Promises.{Import}
-use Rattle.provider.specs.declared.Counted.{Counted}
+use Rattle.provider.specs.Counted.{Counted}
 use Rattle.updating.specs.Sent.{sent}
 use Rattle.updating.specs.Promises.{Update}
 use Rattle.updating.specs.laws.Outcomes.{update_one}
 use Rattle.demands.specs.Own.{own}
 use Rattle.demands.proofs.Mirror.{Mirrors, after_holds, another_mirrors, update_answer_lem, update_mirrors}
 use Rattle.imports.specs.Handed.{Handed}
-use Rattle.sweeping.specs.declared.Swept.{Swept}
+use Rattle.sweeping.specs.Swept.{Swept}
 use Rattle.sweeping.specs.Promises.{Sweep}
 use Rattle.sweeping.specs.laws.Outcomes.{sweep_one}
 use Rattle.demands.specs.History.{Entry, sweep, Answer, Event, sweeping, concerns, his, entries, answers, empty, Ours, start, accepted, refused, swept, idle, Replay, applied}

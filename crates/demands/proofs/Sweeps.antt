@@ -6,7 +6,7 @@ use Rattle.slots.specs.Slots.{records}
 use Rattle.slots.specs.Search.{count_of}
 use Rattle.register.specs.Register.{in_order}
 use Rattle.upkeep.specs.Holds.{Holds}
-use Rattle.sweeping.specs.declared.Swept.{Swept}
+use Rattle.sweeping.specs.Swept.{Swept}
 use Rattle.sweeping.specs.Sweep.{going, staying, sweep_stops, sweep_number}
 use Rattle.sweeping.specs.Promises.{Sweep}
 use Rattle.sweeping.specs.laws.Sweep.{goes_or_stays, sweep_number_lem, sweep_refused, sweep_counts, sweep_holds}

@@ -2,10 +2,10 @@
 use Rattle.std.specs.Prelude.{◌≡◌, Bool, List, ◌++◌, ℕ, ◌≤◌, length, take, drop}
 use Rattle.weights.specs.Weights.{weight_holds}
 use Rattle.hgv.specs.Layout.{lines_in}
-use Rattle.provider.specs.declared.Counted.{Counted}
+use Rattle.provider.specs.Counted.{Counted}
 use Rattle.reading.specs.Promises.{ReadBack}
 use Rattle.stops.specs.laws.Clear.{clear, clear_none}
-use Rattle.imports.specs.declared.Imported.{Imported}
+use Rattle.imports.specs.Imported.{Imported}
 use Rattle.imports.specs.Handed.{Handed}
 use Rattle.imports.specs.Import.{following, confirmed, success, register_written, timed}
 use Rattle.importer.specs.Promises.{Import}

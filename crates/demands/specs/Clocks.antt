@@ -13,11 +13,11 @@ use Rattle.offsets.specs.Offset.{local, utc, reception_holds, utc_holds}
 use Rattle.offsets.specs.laws.Shift.{local_back, local_utc}
 use Rattle.answers.specs.Layout.{reception_of}
 use Rattle.receipts.specs.Receipt.{receipt_holds}
-use Rattle.imports.specs.declared.Imported.{Imported}
+use Rattle.imports.specs.Imported.{Imported}
 use Rattle.imports.specs.Handed.{Handed, at}
 use Rattle.imports.specs.Shown.{answer_as, register_as, hgc_as}
 use Rattle.importer.specs.Promises.{Import}
-use Rattle.provider.specs.declared.Counted.{Counted}
+use Rattle.provider.specs.Counted.{Counted}
 use Rattle.updating.specs.Sent.{Sent}
 use Rattle.updating.specs.Shown as updates
 use Rattle.updating.specs.Promises.{Update}

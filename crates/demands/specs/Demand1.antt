@@ -5,11 +5,11 @@ use Rattle.theory.specs.First.{Decided}
 use Rattle.lookups.specs.Lookup.{pan_rules, plate_rules}
 use Rattle.lookups.specs.Promises.{ByPan, ByPlate}
 use Rattle.lookups.specs.laws.Found.{by_pan_refused, by_plate_refused}
-use Rattle.imports.specs.declared.Imported.{Imported}
+use Rattle.imports.specs.Imported.{Imported}
 use Rattle.imports.specs.Import.{stops}
 use Rattle.importer.specs.Promises.{Import}
 use Rattle.imports.specs.Promises.{ImportJudged}
-use Rattle.provider.specs.declared.Counted.{Counted}
+use Rattle.provider.specs.Counted.{Counted}
 use Rattle.reading.specs.ReadBack.{hgv_stops, block_stops}
 use Rattle.updating.specs.Sent.{Sent}
 use Rattle.copies.specs.Copy.{copy_stops}
@@ -17,7 +17,7 @@ use Rattle.updating.specs.Update.{receipt_stops}
 use Rattle.reading.specs.Promises.{ReadBack}
 use Rattle.updating.specs.Promises.{Update}
 use Rattle.imports.specs.Handed.{Handed}
-use Rattle.sweeping.specs.declared.Swept.{Swept}
+use Rattle.sweeping.specs.Swept.{Swept}
 use Rattle.sweeping.specs.Sweep.{sweep_stops}
 use Rattle.sweeping.specs.Promises.{Sweep}
 use Rattle.sweeping.specs.laws.Sweep as swept

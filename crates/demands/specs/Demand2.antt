@@ -22,8 +22,8 @@ use Rattle.verdicts.specs.Verdict.{verdict_rules, verdicts_of}
 use Rattle.offsets.specs.Offset.{local}
 use Rattle.hgc.specs.Confirmation.{confirmation}
 use Rattle.holdings.specs.Holdings.{others, holdings}
-use Rattle.imports.specs.declared.Imported.{Imported}
-use Rattle.provider.specs.declared.Counted.{Counted}
+use Rattle.imports.specs.Imported.{Imported}
+use Rattle.provider.specs.Counted.{Counted}
 use Rattle.reading.specs.Promises.{ReadBack}
 use Rattle.imports.specs.Handed.{Handed}
 use Rattle.importer.specs.Promises.{Import}

@@ -6,11 +6,11 @@ use Rattle.theory.specs.Join.{flat}
 use Rattle.theory.specs.Pad.{pad}
 use Rattle.sizes.specs.Sizes.{slot_length, slots_most}
 use Rattle.slots.specs.Slots.{records}
-use Rattle.imports.specs.declared.Imported.{Imported}
+use Rattle.imports.specs.Imported.{Imported}
 use Rattle.demands.specs.Own.{own}
 use Rattle.imports.specs.Handed.{Handed}
 use Rattle.importer.specs.Promises.{Import}
-use Rattle.sweeping.specs.declared.Swept.{Swept}
+use Rattle.sweeping.specs.Swept.{Swept}
 use Rattle.sweeping.specs.Promises.{Sweep}
 use Rattle.demands.specs.History.{Entry, Answer, Event, sweeping, his, entries, answers, empty, ◌▸◌, Ours, Replay}
 use Rattle.demands.specs.laws.Replays as laws

@@ -9,13 +9,13 @@ use Rattle.header.specs.Header.{sender}
 use Rattle.sizes.specs.Sizes.{slot_length, slots_most}
 use Rattle.slots.specs.Slots.{records}
 use Rattle.slots.specs.Search.{count_of}
-use Rattle.imports.specs.declared.Imported.{Imported}
+use Rattle.imports.specs.Imported.{Imported}
 use Rattle.imports.specs.Handed.{Handed}
 use Rattle.importer.specs.Promises.{Import}
-use Rattle.provider.specs.declared.Counted.{Counted}
+use Rattle.provider.specs.Counted.{Counted}
 use Rattle.updating.specs.Sent.{Sent, sent}
 use Rattle.updating.specs.Promises.{Update}
-use Rattle.sweeping.specs.declared.Swept.{Swept}
+use Rattle.sweeping.specs.Swept.{Swept}
 use Rattle.sweeping.specs.Promises.{Sweep}
 
 -- what he has to do on his side

@@ -5,7 +5,7 @@ use Rattle.theory.specs.First.{◌if◌, Decided}
 use Rattle.slots.specs.Slots.{slots_in}
 use Rattle.offsets.specs.Offset.{reception_holds}
 use Rattle.stops.specs.Stops.{call_stops, file_stops, index_short}
-use Rattle.imports.specs.declared.Imported.{Imported}
+use Rattle.imports.specs.Imported.{Imported}
 use Rattle.imports.specs.Handed.{Handed}
 use Rattle.imports.specs.Import.{judged_stops}
 use Rattle.importer.specs.Promises.{Import}

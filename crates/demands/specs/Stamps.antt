@@ -12,13 +12,13 @@ use Rattle.hgv.specs.Layout.{lines_of}
 use Rattle.slots.specs.Slots.{records}
 use Rattle.register.specs.Register.{in_order}
 use Rattle.lookups.specs.Promises.{ByPan, ByPlate}
-use Rattle.imports.specs.declared.Imported.{Imported}
+use Rattle.imports.specs.Imported.{Imported}
 use Rattle.imports.specs.Handed.{Handed}
 use Rattle.importer.specs.Promises.{Import}
 use Rattle.offsets.specs.Offset.{utc}
 use Rattle.answers.specs.Layout.{list_of, reception_of}
 use Rattle.receipts.specs.Receipt.{taken_by}
-use Rattle.provider.specs.declared.Counted.{Counted}
+use Rattle.provider.specs.Counted.{Counted}
 use Rattle.updating.specs.Sent.{Sent}
 use Rattle.updating.specs.Promises.{Update}
 use Rattle.demands.specs.Verdicts.{Verdicts}

@@ -17,13 +17,13 @@ use Rattle.slots.specs.Slots.{slots_in, records, used_in}
 use Rattle.slots.specs.Search.{of_actor}
 use Rattle.register.specs.Register.{in_order}
 use Rattle.lookups.specs.Promises.{ByPlate}
-use Rattle.imports.specs.declared.Imported.{Imported}
+use Rattle.imports.specs.Imported.{Imported}
 use Rattle.imports.specs.Handed.{Handed}
 use Rattle.importer.specs.Promises.{Import}
-use Rattle.provider.specs.declared.Counted.{Counted}
+use Rattle.provider.specs.Counted.{Counted}
 use Rattle.updating.specs.Sent.{Sent}
 use Rattle.updating.specs.Promises.{Update}
-use Rattle.sweeping.specs.declared.Swept.{Swept}
+use Rattle.sweeping.specs.Swept.{Swept}
 use Rattle.sweeping.specs.Sweep.{ended}
 use Rattle.sweeping.specs.Promises.{Sweep}
 use Rattle.sweeping.specs.laws.Sweep.{ended_is, staying_active, going_inactive, sweep_counts, sweep_holds}

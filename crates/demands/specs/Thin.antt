@@ -14,10 +14,10 @@ use Rattle.slots.specs.Slots.{slots_in, records}
 use Rattle.slots.specs.Search.{count_of}
 use Rattle.holdings.specs.Holdings.{others, holdings}
 use Rattle.stops.specs.Stops.{form_stops}
-use Rattle.imports.specs.declared.Imported.{Imported}
+use Rattle.imports.specs.Imported.{Imported}
 use Rattle.imports.specs.Handed.{Handed}
 use Rattle.importer.specs.Promises.{Import}
-use Rattle.provider.specs.declared.Counted.{Counted}
+use Rattle.provider.specs.Counted.{Counted}
 use Rattle.updating.specs.Sent.{Sent}
 use Rattle.offsets.specs.Offset.{reception_holds}
 use Rattle.updating.specs.Promises.{Update}

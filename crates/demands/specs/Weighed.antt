@@ -29,9 +29,9 @@ use Rattle.stops.specs.Stops.{form_stop}
 use Rattle.offsets.specs.Offset.{local, reception_holds}
 use Rattle.receipts.specs.Receipt.{taken_by, receipt_holds}
 use Rattle.imports.specs.Handed.{Handed}
-use Rattle.provider.specs.declared.Counted.{Counted}
+use Rattle.provider.specs.Counted.{Counted}
 use Rattle.updating.specs.Sent.{sent}
-use Rattle.sweeping.specs.declared.Swept.{Swept}
+use Rattle.sweeping.specs.Swept.{Swept}
 use Rattle.sweeping.specs.Promises.{Sweep}
 use Rattle.demands.specs.History.{apply, of_update, Event, sweeping, empty, ◌▸◌}
 

@@ -18,10 +18,10 @@ use Rattle.sizes.specs.Sizes.{slot_length}
 use Rattle.slots.specs.Slots.{records}
 use Rattle.register.specs.Register.{in_order}
 use Rattle.receipts.specs.Receipt.{receipt_holds}
-use Rattle.imports.specs.declared.Imported.{Imported}
+use Rattle.imports.specs.Imported.{Imported}
 use Rattle.imports.specs.Handed.{Handed}
 use Rattle.importer.specs.Promises.{Import}
-use Rattle.provider.specs.declared.Counted.{Counted}
+use Rattle.provider.specs.Counted.{Counted}
 use Rattle.reading.specs.Promises.{ReadBack}
 use Rattle.demands.specs.Own.{own}
 use Rattle.demands.specs.History.{Answer, Event, his, entries, answers, Replay}

@@ -12,13 +12,13 @@ use Rattle.header.specs.Header.{sender, receiver, list_sequence, previous, count
 use Rattle.slots.specs.Slots.{slots_in, records}
 use Rattle.slots.specs.Search.{held_by_another}
 use Rattle.register.specs.Register.{in_order}
-use Rattle.imports.specs.declared.Imported.{Imported}
+use Rattle.imports.specs.Imported.{Imported}
 use Rattle.offsets.specs.Offset.{reception_holds}
 use Rattle.imports.specs.Handed.{handed}
 use Rattle.importer.specs.Promises.{Import}
 use Rattle.demands.specs.Verdicts.{Verdicts}
 use Rattle.accounts.specs.Account as account
-use Rattle.writer.specs.declared.Written.{Written}
+use Rattle.writer.specs.Written.{Written}
 use Rattle.writer.specs.Given.{Given}
 use Rattle.writer.specs.Hgv.{accounts_in, accounts_of, write_stops}
 use Rattle.writer.specs.Promises.{WriteHgv}

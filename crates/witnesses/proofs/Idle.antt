@@ -4,7 +4,7 @@ use Rattle.std.specs.Prelude.{◌≡◌, refl, false, List, ℕ, take}
 use Rattle.std.proofs.Common.{sym, ap, ◌∙◌, true≢false}
 use Rattle.theory.specs.Same.{eqs}
 use Rattle.theory.specs.laws.Same.{eqs_refl}
-use Rattle.imports.specs.declared.Imported.{Imported}
+use Rattle.imports.specs.Imported.{Imported}
 use Rattle.imports.specs.Promises.{ImportJudged}
 use Rattle.imports.proofs.Shown.{zero_as}
 use Rattle.imports.specs.Handed.{Handed}

@@ -17,9 +17,9 @@ use Rattle.offsets.specs.Ahead.{ahead_of}
 use Rattle.offsets.specs.laws.Shift.{shown_is, local_back, local_utc}
 use Rattle.answers.specs.Layout.{reception_of}
 use Rattle.receipts.specs.Receipt.{receipt_holds}
-use Rattle.provider.specs.declared.Counted.{Counted}
+use Rattle.provider.specs.Counted.{Counted}
 use Rattle.slots.specs.Slots.{records}
-use Rattle.imports.specs.declared.Imported.{Imported}
+use Rattle.imports.specs.Imported.{Imported}
 use Rattle.importer.specs.Promises.{Import}
 use Rattle.imports.specs.Promises.{ImportJudged}
 use Rattle.imports.specs.Shown.{answer_as, register_as, hgc_as}
@@ -33,7 +33,7 @@ use Rattle.updating.proofs.Shown as update_laws
 use Rattle.updating.specs.laws.Outcomes.{update_one}
 use Rattle.demands.specs.Own.{own}
 use Rattle.imports.specs.Handed.{Handed}
-use Rattle.sweeping.specs.declared.Swept.{Swept}
+use Rattle.sweeping.specs.Swept.{Swept}
 use Rattle.sweeping.specs.Sweep.{sweep_answer, register_swept}
 use Rattle.sweeping.specs.Promises.{Sweep}
 use Rattle.demands.specs.History.{apply, sweep, of_update, of_sweep, acceptance, sweeping, concerns, his, entries, empty, ◌▸◌, Ours, start, accepted, refused, swept, Replay, applied}

@@ -53,17 +53,17 @@ use Rattle.theory.specs.Stopped.{unless_stopped}
 use Rattle.imports.specs.Handed.{Handed}
 use Rattle.imports.specs.Import.{judged, following, refusal, register_written}
 use Rattle.imports.specs.Shown.{confirmed_as, stops_as, number_as, answer_as, register_as, hgc_as}
-use Rattle.imports.specs.declared.Imported.{Imported}
+use Rattle.imports.specs.Imported.{Imported}
 use Rattle.pairing.specs.Pairing.{is_taken, marks_from, marks, left}
 use Rattle.answers.specs.Layout.{answers_in, behind_head, answers_of, reception_of}
 use Rattle.receipts.specs.Receipt.{length_form, head_form, answer_form, form_holds, names_hold, outcome_holds, reason_holds, texts_of, copies_of, marks_of, taken_by, same_texts, copies_hold, counts_hold, line_holds, taken_hold, says_hold, lines_hold, receipt_holds}
-use Rattle.provider.specs.declared.Counted.{Counted}
+use Rattle.provider.specs.Counted.{Counted}
 use Rattle.provider.specs.Answer.{stop_counts, success_counts}
 use Rattle.updating.specs.Sent.{Sent, sent}
 use Rattle.copies.specs.Copy.{own_holds, copy_stops}
 use Rattle.updating.specs.Shown as updates
 use Rattle.updating.specs.Shown.{following_as, copy_as}
-use Rattle.sweeping.specs.declared.Swept.{Swept}
+use Rattle.sweeping.specs.Swept.{Swept}
 use Rattle.sweeping.specs.Sweep.{ended, going, staying, sweep_stops, sweep_number, sweep_answer, swept_bytes, register_swept}
 use Rattle.demands.specs.History.{Entry, apply, sweep, Answer, of_update, of_sweep, empty}
 use Rattle.witnesses.specs.Files as files

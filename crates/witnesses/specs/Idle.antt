@@ -1,6 +1,6 @@
 -- What a build of the import is, and that it meets the contract: of whatever does, the four idle builds are shut out (`proofs/Idle`).
 use Rattle.std.specs.Prelude.{List, ℕ}
-use Rattle.imports.specs.declared.Imported.{Imported}
+use Rattle.imports.specs.Imported.{Imported}
 use Rattle.importer.specs.Promises.{Import}
 use Rattle.imports.specs.Handed.{Handed}
 

@@ -8,7 +8,7 @@ use Rattle.theory.specs.laws.First.{decided, numbered}
 use Rattle.theory.specs.laws.Stopped.{number_kept}
 use Rattle.lookups.specs.Lookup.{pan_rules, pan_number, plate_rules, plate_number}
 use Rattle.lookups.specs.Promises.{ByPan, ByPlate}
-use Rattle.provider.specs.declared.Counted.{Counted}
+use Rattle.provider.specs.Counted.{Counted}
 use Rattle.provider.specs.Answer.{stop_counts, success_counts}
 use Rattle.reading.specs.ReadBack.{hgv_stops, block_stops, read_number, read_answer}
 use Rattle.updating.specs.Sent.{Sent}

@@ -12,7 +12,7 @@ use Rattle.offsets.specs.Offset.{local, utc, reception_holds}
 use Rattle.offsets.specs.laws.Shift.{local_real, local_minutes, local_back}
 use Rattle.answers.specs.Layout.{reception_of}
 use Rattle.receipts.specs.Receipt.{receipt_holds}
-use Rattle.imports.specs.declared.Imported.{Imported}
+use Rattle.imports.specs.Imported.{Imported}
 use Rattle.imports.specs.Handed.{Handed, at}
 use Rattle.imports.specs.Import.{judged, confirmed, following, register_written}
 use Rattle.imports.specs.Shown.{confirmed_as, stops_as, number_as, answer_as, register_as, hgc_as}
@@ -21,7 +21,7 @@ use Rattle.imports.specs.Promises.{ImportJudged}
 use Rattle.imports.specs.laws.Numbers.{Formed, accepted_clear}
 use Rattle.imports.proofs.Room.{accepted_passed}
 use Rattle.imports.proofs.Shown.{shown_as, zero_as}
-use Rattle.provider.specs.declared.Counted.{Counted}
+use Rattle.provider.specs.Counted.{Counted}
 use Rattle.updating.specs.Sent.{Sent}
 use Rattle.updating.specs.Shown as updates
 use Rattle.updating.specs.Promises.{Update}

@@ -25,14 +25,14 @@ use Rattle.holdings.specs.Holdings.{others, holdings}
 use Rattle.sizes.specs.Modes.{is_full}
 use Rattle.holdings.specs.laws.Storing.{all_grows}
 use Rattle.upkeep.specs.Holds.{Holds}
-use Rattle.imports.specs.declared.Imported.{Imported}
+use Rattle.imports.specs.Imported.{Imported}
 use Rattle.imports.specs.Import.{judged, file_stamp, following, confirmed, import_number, success, hgc_written, shown}
 use Rattle.importer.specs.Promises.{Import}
 use Rattle.imports.specs.laws.Numbers.{accepted_clear}
 use Rattle.imports.proofs.Room.{accepted_passed}
 use Rattle.imports.specs.laws.Follows.{adds_up}
 use Rattle.imports.proofs.Follows.{holds_following, others_same, places_same}
-use Rattle.provider.specs.declared.Counted.{Counted}
+use Rattle.provider.specs.Counted.{Counted}
 use Rattle.reading.specs.Promises.{ReadBack}
 use Rattle.demands.specs.Weighed.{own_counts}
 use Rattle.demands.specs.laws.Sound.{sound_today}

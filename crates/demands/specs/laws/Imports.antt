@@ -8,7 +8,7 @@ use Rattle.theory.specs.laws.First.{decided, numbered, numbered_to, otherwise, f
 use Rattle.theory.specs.laws.Stopped.{number_kept}
 use Rattle.stops.specs.Stops.{call_stops, file_stops, form_stops, form_stop}
 use Rattle.stops.specs.laws.Clear.{clear}
-use Rattle.imports.specs.declared.Imported.{Imported}
+use Rattle.imports.specs.Imported.{Imported}
 use Rattle.imports.specs.Import.{judged_stops, stops, import_number, refusal, success, register_written, hgc_written, import_answer, timed}
 use Rattle.importer.specs.Promises.{Import}
 use Rattle.imports.specs.Promises.{ImportJudged}

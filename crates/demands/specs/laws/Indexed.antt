@@ -8,7 +8,7 @@ use Rattle.theory.specs.laws.First.{decided, numbered, numbered_by, first_passes
 use Rattle.theory.specs.laws.Stopped.{at_stop, number_kept}
 use Rattle.slots.specs.Slots.{slots_in}
 use Rattle.stops.specs.Stops.{call_stops, file_stops, form_stops, index_short, indexed_form_stops}
-use Rattle.imports.specs.declared.Imported.{Imported}
+use Rattle.imports.specs.Imported.{Imported}
 use Rattle.imports.specs.Handed.{Handed}
 use Rattle.imports.specs.Import.{judged_stops, stops, timed, import_number, refusal, success}
 use Rattle.importer.specs.Promises.{Import}

@@ -18,7 +18,7 @@ use Rattle.slots.specs.Slots.{slots_in, records}
 use Rattle.slots.specs.Search.{of_actor}
 use Rattle.holdings.specs.Holdings.{others, replaced_all, holdings}
 use Rattle.receipts.specs.Receipt.{taken_by}
-use Rattle.provider.specs.declared.Counted.{Counted}
+use Rattle.provider.specs.Counted.{Counted}
 use Rattle.updating.specs.Sent.{Sent}
 use Rattle.copies.specs.Copy.{own_holds, copy_stops}
 use Rattle.updating.specs.Update.{receipt_stops, sent_stamp, copy_following, update_number, copy_written, copy_after}

@@ -11,7 +11,7 @@ use Rattle.claims.specs.Claims.{receiver_holds}
 use Rattle.stops.specs.Stops.{addressed}
 use Rattle.imports.specs.Import.{shown}
 use Rattle.imports.specs.Handed.{Handed}
-use Rattle.provider.specs.declared.Counted.{Counted}
+use Rattle.provider.specs.Counted.{Counted}
 use Rattle.provider.specs.Answer.{success_counts}
 use Rattle.reading.specs.Promises.{ReadBack}
 use Rattle.reading.specs.ReadBack.{hgv_stops, block_stops, read_number, read_answer, verdicts_written, verdicts_after}

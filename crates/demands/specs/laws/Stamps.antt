@@ -28,7 +28,7 @@ use Rattle.register.specs.Register.{in_order}
 use Rattle.register.specs.laws.Register.{ordered, used_stamped}
 use Rattle.verdicts.specs.Verdict.{taken}
 use Rattle.applying.specs.laws.Touched as applying
-use Rattle.imports.specs.declared.Imported.{Imported}
+use Rattle.imports.specs.Imported.{Imported}
 use Rattle.imports.specs.Handed.{Handed}
 use Rattle.imports.specs.Import.{judged, file_stamp, following, import_number}
 use Rattle.importer.specs.Promises.{Import}
@@ -42,7 +42,7 @@ use Rattle.applying.specs.Fit.{Fit}
 use Rattle.applying.specs.laws.Follows.{follows}
 use Rattle.answers.specs.Layout.{list_of}
 use Rattle.receipts.specs.Receipt.{taken_by, receipt_holds}
-use Rattle.provider.specs.declared.Counted.{Counted}
+use Rattle.provider.specs.Counted.{Counted}
 use Rattle.provider.specs.laws.Held.{list_held}
 use Rattle.updating.specs.Sent.{Sent}
 use Rattle.copies.specs.Copy.{copy_stops}

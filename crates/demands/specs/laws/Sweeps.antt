@@ -28,13 +28,13 @@ use Rattle.lookups.specs.laws.Outcomes.{by_plate_one}
 use Rattle.verdicts.specs.Verdict.{taken}
 use Rattle.holdings.specs.laws.Room.{holdings_most}
 use Rattle.thinness.specs.Thin.{thin}
-use Rattle.imports.specs.declared.Imported.{Imported}
+use Rattle.imports.specs.Imported.{Imported}
 use Rattle.imports.specs.Handed.{Handed}
 use Rattle.imports.specs.Import.{judged, file_stamp, following, confirmed, judged_stops}
 use Rattle.importer.specs.Promises.{Import}
 use Rattle.imports.specs.laws.Numbers.{Formed}
 use Rattle.imports.specs.laws.Thin.{length_taken}
-use Rattle.sweeping.specs.declared.Swept.{Swept}
+use Rattle.sweeping.specs.Swept.{Swept}
 use Rattle.sweeping.specs.Sweep.{ended, going, staying}
 use Rattle.sweeping.specs.Promises.{Sweep}
 use Rattle.sweeping.specs.laws.Sweep.{stays_active, goes_or_stays, staying_active, none_goes, sweep_refused, sweep_ordered, sweep_counts, sweep_holds}

@@ -32,7 +32,7 @@ use Rattle.thinness.specs.Thin.{thin}
 use Rattle.thinness.specs.laws.Thin.{thin_so, thin_only, thick_half}
 use Rattle.stops.specs.Stops.{form_stops, form_stop}
 use Rattle.stops.specs.laws.Clear.{clear}
-use Rattle.imports.specs.declared.Imported.{Imported}
+use Rattle.imports.specs.Imported.{Imported}
 use Rattle.imports.specs.Handed.{Handed}
 use Rattle.imports.specs.Import.{judged, file_stamp, following, confirmed, judged_stops, import_number, timed}
 use Rattle.importer.specs.Promises.{Import}
@@ -41,7 +41,7 @@ use Rattle.imports.specs.laws.Accepted.{lines_his}
 use Rattle.imports.specs.laws.Thin.{length_taken}
 use Rattle.imports.proofs.Room.{accepted_passed, never_both}
 use Rattle.imports.proofs.Follows.{fit}
-use Rattle.provider.specs.declared.Counted.{Counted}
+use Rattle.provider.specs.Counted.{Counted}
 use Rattle.updating.specs.Sent.{Sent}
 use Rattle.copies.specs.Copy.{copy_stops}
 use Rattle.updating.specs.Update.{receipt_stops, update_number}

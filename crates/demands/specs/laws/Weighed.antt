@@ -15,7 +15,7 @@ use Rattle.slots.specs.Slots.{records}
 use Rattle.register.specs.Register.{in_order}
 use Rattle.receipts.specs.Receipt.{taken_by, receipt_holds}
 use Rattle.verdicts.specs.Verdict.{own_rules, verdict_rules, verdict, verdicts_of, file_verdicts}
-use Rattle.imports.specs.declared.Imported.{Imported}
+use Rattle.imports.specs.Imported.{Imported}
 use Rattle.imports.specs.Handed.{Handed}
 use Rattle.imports.specs.Import.{judged, confirmed, success, hgc_written}
 use Rattle.importer.specs.Promises.{Import}

@@ -40,7 +40,7 @@ use Rattle.verdicts.specs.Verdict.{file_verdicts, taken}
 use Rattle.holdings.specs.Holdings.{holdings}
 use Rattle.thinness.specs.laws.Thin.{incremental_thick}
 use Rattle.hgc.specs.laws.Confirmation.{length_confirmation}
-use Rattle.imports.specs.declared.Imported.{Imported}
+use Rattle.imports.specs.Imported.{Imported}
 use Rattle.offsets.specs.Offset.{local, reception_holds}
 use Rattle.offsets.specs.laws.Shift.{local_real}
 use Rattle.imports.specs.Handed.{Handed, handed}
@@ -54,7 +54,7 @@ use Rattle.demands.specs.laws.Imports as imports
 use Rattle.accounts.specs.Account as account
 use Rattle.accounts.specs.Account.{account_length, account_line}
 use Rattle.accounts.specs.laws.Account as its
-use Rattle.writer.specs.declared.Written.{Written}
+use Rattle.writer.specs.Written.{Written}
 use Rattle.writer.specs.Given.{Given}
 use Rattle.writer.specs.Hgv.{accounts_in, accounts_of, lines_for, file_of, given_holds, pans_apart, write_stops, write_number, unwritten, written_whole, write_answer, out_written, out_after}
 use Rattle.writer.specs.Promises.{WriteHgv}
