@@ -1,23 +1,26 @@
-// The right line, or that line with one place changed.
-use crate::tell::told;
+//! The right line, or that line with one place changed.
+use rules::Reason;
 use vectors::SAMPLES;
+use vectors::program::Answer;
 
-fn of_changed(tag: &[u8], line: &[u8], f: &[u8], samples: &[u8; SAMPLES]) -> u64 {
-    if texts::same(tag, b"line    ") {
-        return lines::line_fault(line, b"900123", b"97990012      0816900123");
+/// 0, or the reason's number.
+fn number(verdict: Result<(), Reason>) -> Answer {
+    match verdict {
+        Ok(()) => Answer::Number(0),
+        Err(reason) => Answer::Number(u64::from(reason.number())),
     }
-    if texts::same(tag, b"record  ") {
-        return told(lines::is_record(line));
-    }
-    crate::file::of_file(tag, f, samples)
 }
 
-pub fn of_line(tag: &[u8], f: &[u8], samples: &[u8; SAMPLES]) -> u64 {
+pub fn of_line(asked: &[u8], f: &[u8], samples: &[u8; SAMPLES]) -> Answer {
     let mut line = [0u8; 128];
     vectors::lay(&mut line, 1, 128, samples, b"X");
-    if texts::same(tag, b"under   ") {
-        return lines::line_fault(&line, b"900123", f);
+    if asked == b"under   ".as_slice() {
+        return number(lines::line_fault(&line, b"900123", f));
     }
     vectors::change(&mut line, f);
-    of_changed(tag, &line, f, samples)
+    match asked {
+        b"line    " => number(lines::line_fault(&line, b"900123", b"97990012      0816900123")),
+        b"record  " => Answer::from(lines::is_record(&line)),
+        _ => crate::file::of_file(asked, f, samples),
+    }
 }

@@ -1,38 +1,36 @@
-// Blocks of the largest size. The first number of the answer is handed back; aloud, all is told.
+//! Blocks of the largest size. The first number of the answer is handed back; where there is an `out`, all is told.
 ghost use Rattle.std.specs.Prelude.{◌+◌, ◌*◌, ◌≤◌, length};
 
-use crate::blocks::{at_most, number_in};
+use crate::blocks::number_in;
 use sizes::{FOOTER, HEADER, LINE, SLOT};
 use vectors::SAMPLES;
+use vectors::program::Answer;
 
-// One more than a file may have.
+/// One more than a file may have.
 const LINES: usize = sizes::LINES_MOST + 1;
 
-// The bytes of one slot more than a register may have.
+/// The bytes of one slot more than a register may have.
 const ROOM: usize = (sizes::SLOTS_MOST + 1) * SLOT;
 
-// So many zero bytes as a register.
-fn in_order(rt: &HostRuntime, room: &[u8], n: usize, aloud: bool) -> u64 {
+fn in_order(out: Option<&HostRuntime>, room: &[u8], n: usize) -> Answer {
     if room.len() < n {
-        return 0;
+        return Answer::Number(0);
     }
-    let answer = crate::tell::told(register::in_order(&room[0..n]));
-    if aloud {
-        crate::tell::first(rt, answer);
-    }
-    answer
+    crate::found::in_order(out, &room[..n])
 }
 
-fn with_room(rt: &HostRuntime, f: &[u8], room: &[u8; ROOM], aloud: bool) -> u64 {
-    in_order(rt, room, number_in(f), aloud)
+// Its own function, and so below, so that no proof is about so long an array and a slice of it at once.
+fn with_room(out: Option<&HostRuntime>, f: &[u8], room: &[u8; ROOM]) -> Answer {
+    in_order(out, room, number_in(f))
 }
 
-pub fn of_slots(rt: &HostRuntime, f: &[u8], aloud: bool) -> u64 {
+/// So many zero bytes as a register.
+pub fn of_slots(out: Option<&HostRuntime>, f: &[u8]) -> Answer {
     let room = [0u8; ROOM];
-    with_room(rt, f, &room, aloud)
+    with_room(out, f, &room)
 }
 
-// A file with a line for each letter.
+/// A file with a line for each letter.
 pub fn lay_lines(hgv: &mut [u8], samples: &[u8; SAMPLES], letters: &[u8])
     requires { 192 + length letters.now * 128 ≤ length hgv.old }
 {
@@ -43,22 +41,21 @@ pub fn lay_lines(hgv: &mut [u8], samples: &[u8; SAMPLES], letters: &[u8])
     numbers::put_number(hgv, 66, 15, n as u64);
 }
 
-// So many lines B, of which each is to be rejected.
+/// So many lines B, of which each is to be rejected.
 fn import_lines(
-    rt: &HostRuntime,
+    out: Option<&HostRuntime>,
     f: &[u8],
     samples: &[u8; SAMPLES],
     hgv: &mut [u8],
     hgc: &mut [u8],
-    aloud: bool,
-) -> u64
+) -> Answer
     requires { 1048896 ≤ length hgv.old }
 {
-    let n = at_most(number_in(f), LINES);
+    let n = number_in(f).min(LINES);
     let mut register = [0u8; SLOT];
     let letters = [b'B'; LINES];
-    lay_lines(hgv, samples, &letters[0..n]);
-    let r = importer::import(
+    lay_lines(hgv, samples, &letters[..n]);
+    let outcome = importer::import(
         1,
         b"20250310050000",
         0,
@@ -67,27 +64,25 @@ fn import_lines(
         texts::field(hgv, 1, HEADER + n * LINE + FOOTER),
         hgc,
     );
-    if aloud {
-        crate::tell::counts(rt, r.number, r.taken, r.rejected);
-        crate::tell::number(rt, r.length);
+    if let Some(rt) = out {
+        crate::tell::confirmed(rt, outcome);
     }
-    r.number
+    Answer::of_call(&outcome)
 }
 
-// The largest HGC.
 fn with_blocks(
-    rt: &HostRuntime,
+    out: Option<&HostRuntime>,
     f: &[u8],
     samples: &[u8; SAMPLES],
     hgv: &mut [u8; 1048896],
     hgc: &mut [u8; 1065134],
-    aloud: bool,
-) -> u64 {
-    import_lines(rt, f, samples, hgv, hgc, aloud)
+) -> Answer {
+    import_lines(out, f, samples, hgv, hgc)
 }
 
-pub fn of_lines(rt: &HostRuntime, f: &[u8], samples: &[u8; SAMPLES], aloud: bool) -> u64 {
+/// Into the largest HGC.
+pub fn of_lines(out: Option<&HostRuntime>, f: &[u8], samples: &[u8; SAMPLES]) -> Answer {
     let mut hgv = [0u8; 1048896];
     let mut hgc = [0u8; 1065134];
-    with_blocks(rt, f, samples, &mut hgv, &mut hgc, aloud)
+    with_blocks(out, f, samples, &mut hgv, &mut hgc)
 }

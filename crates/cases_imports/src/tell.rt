@@ -1,31 +1,14 @@
-// What is written behind a vector.
+//! What is written behind a vector.
+use imports::Confirmed;
+use provider::Counts;
+use rules::Refusal;
 use sizes::SLOT;
+use vectors::program::Answer;
 
-const NO: u64 = 100;
-
-const YES: u64 = 101;
-
-pub fn told(holds: bool) -> u64 {
-    if holds { YES } else { NO }
-}
-
-// Yes, no or a number.
-pub fn answer(rt: &HostRuntime, answer: u64) {
-    if answer == NO {
-        printing::write_all(rt, b"no");
-        return;
-    }
-    if answer == YES {
-        printing::write_all(rt, b"yes");
-        return;
-    }
-    printing::print_decimal(rt, answer);
-}
-
-// The first of a vector's answers.
-pub fn first(rt: &HostRuntime, answer: u64) {
+/// The first of a vector's answers.
+pub fn first(rt: &HostRuntime, answer: Answer) {
     printing::write_all(rt, b" -> ");
-    crate::tell::answer(rt, answer);
+    printing::print(rt, &answer);
 }
 
 pub fn number(rt: &HostRuntime, n: u64) {
@@ -33,16 +16,33 @@ pub fn number(rt: &HostRuntime, n: u64) {
     printing::print_decimal(rt, n);
 }
 
-pub fn counts(rt: &HostRuntime, number: u64, taken: u64, rejected: u64) {
-    crate::tell::first(rt, number);
-    crate::tell::number(rt, taken);
-    crate::tell::number(rt, rejected);
+/// The number of a read back or an update, and both counts.
+pub fn counts(rt: &HostRuntime, outcome: Result<Counts, Refusal>) {
+    let counts = outcome.unwrap_or(Counts {
+        taken: 0,
+        rejected: 0,
+    });
+    first(rt, Answer::of_call(&outcome));
+    number(rt, counts.taken);
+    number(rt, counts.rejected);
 }
 
-// A slot that is used has two lines: its record, which ends with LF, and its stamp.
+/// The four numbers of an import.
+pub fn confirmed(rt: &HostRuntime, outcome: Result<Confirmed, Refusal>) {
+    let confirmed = outcome.unwrap_or(Confirmed {
+        taken: 0,
+        rejected: 0,
+        length: 0,
+    });
+    first(rt, Answer::of_call(&outcome));
+    number(rt, confirmed.taken);
+    number(rt, confirmed.rejected);
+    number(rt, confirmed.length);
+}
+
+/// A slot that is used has two lines: its record, which ends with LF, and its stamp.
 fn slot(rt: &HostRuntime, slot: &[u8]) {
-    let free = [0u8; SLOT];
-    if texts::same(slot, &free) {
+    if slot.iter().all(|&b| b == 0) {
         printing::write_all(rt, b"free\n");
         return;
     }
@@ -51,18 +51,12 @@ fn slot(rt: &HostRuntime, slot: &[u8]) {
 }
 
 pub fn slots(rt: &HostRuntime, register: &[u8]) {
-    let n = register.len() / SLOT;
-    let mut i: usize = 0;
-    while i < n {
-        slot(rt, texts::part(register, SLOT, i));
-        i += 1;
+    for part in register.chunks_exact(SLOT) {
+        slot(rt, part);
     }
 }
 
 pub fn kept(rt: &HostRuntime, holds: bool) {
-    if holds {
-        printing::write_all(rt, b"kept");
-        return;
-    }
-    printing::write_all(rt, b"changed");
+    let word: &[u8] = if holds { b"kept" } else { b"changed" };
+    printing::write_all(rt, word);
 }

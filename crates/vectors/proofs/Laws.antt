@@ -1,6 +1,6 @@
 -- A line turned into the bytes that it stands for, and texts laid one behind the other, as the loops have them. Assumes nothing.
 use mathlib.Core.Path.{◌≡◌, refl, sym, ap, ◌∙◌}
-use mathlib.Core.Bool.{Bool, true, false, ◌&&◌}
+use mathlib.Core.Bool.{Bool, true, false}
 use mathlib.Core.List.{List, [], ◌∷◌, map, map-append}
 use Prim.Native.Nat.{ℕ, suc, ◌<◌, ◌≤◌, ◌+◌, ◌-◌, ◌*◌}
 use native.Mathlib.Numerals.{add-one}
@@ -8,8 +8,8 @@ use native.Mathlib.Omega.{arith}
 use lib.Dec.{leb}
 use lib.ListN.{length, take, drop, get_or, set, length-append, length-take, length-drop, drop_of_length-le}
 use lib.Seq.{take_all, take-suc, take-suc-set, drop-cons, drop-set-lt}
-use borrow.Author.Tests.{eq-eqb, ne_eqb, le-leb, lt-leb, leb-true}
-use Rattle.theory.specs.laws.Truth.{same_truth, and_both, and_left, and_right}
+use borrow.Author.Tests.{eq-eqb, ne_eqb, leb-true}
+use Rattle.theory.specs.laws.Truth.{and_left, and_right}
 use Rattle.theory.specs.Parts.{part_at}
 use Rattle.theory.specs.laws.Parts.{part_fits}
 use Rattle.texts.specs.Field.{field}
@@ -51,18 +51,6 @@ module _ (line₀ : List ℕ) where
 
 -- ---- what a byte stands for
 
-pub marked_lf : (b : ℕ) → b ≡ 126 → 10 ≡ marked b
-unfolding marked
-marked_lf b h = rw (eq-eqb b 126 h)
-
-pub marked_cr : (b : ℕ) → (b ≡ 126 → ⊥) → b ≡ 94 → 13 ≡ marked b
-unfolding marked
-marked_cr b h k = rw (ne_eqb b 126 h, eq-eqb b 94 k)
-
-pub marked_same : (b : ℕ) → (b ≡ 126 → ⊥) → (b ≡ 94 → ⊥) → b ≡ marked b
-unfolding marked
-marked_same b h k = rw (ne_eqb b 126 h, ne_eqb b 94 k)
-
 -- ---- the byte at which a text ends
 
 pub other_end : (end b : ℕ) → b ≡ end → false ≡ other end b
@@ -72,21 +60,6 @@ pub other_on : (end b : ℕ) → (b ≡ end → ⊥) → true ≡ other end b
 other_on end b h = rw (ne_eqb b end h)
 
 -- ---- where a text fits
-
-pub fits_at_lem : (from n room : ℕ) → (from ≡ 0 → ⊥) → n ≤ room → leb (from - 1) (room - n) ≡ fits from n room
-unfolding fits
-fits_at_lem from n room h k =
-    same_truth (leb (from - 1) (room - n)) (leb 1 from && leb (from - 1 + n) room)
-    (λ t. let l = leb-true (from - 1) (room - n) t in and_both (leb 1 from) (leb (from - 1 + n) room) (le-leb 1 from (omega arith)) (le-leb (from - 1 + n) room (omega arith)))
-    (λ t. let l = leb-true (from - 1 + n) room (and_right (leb 1 from) (leb (from - 1 + n) room) t) in le-leb (from - 1) (room - n) (omega arith))
-
-pub fits_zero : (from n room : ℕ) → from ≡ 0 → false ≡ fits from n room
-unfolding fits
-fits_zero from n room h = rw (lt-leb 1 from (omega arith))
-
-pub fits_not : (from n room : ℕ) → (from ≡ 0 → ⊥) → room < n → false ≡ fits from n room
-unfolding fits
-fits_not from n room h k = rw (le-leb 1 from (omega arith), lt-leb (from - 1 + n) room (omega arith))
 
 pub fits_within : (from n room : ℕ) → fits from n room ≡ true → (1 ≤ from) × (from - 1 + n ≤ room)
 unfolding fits
@@ -107,10 +80,6 @@ unfolding changed
 changed_by n d t f b b' e k h p = p ∙ rw (k, e, h)
 
 -- ---- a text with its letter
-
-pub letter_none : (f : List ℕ) → length f ≡ 0 → 0 ≡ get_or f 0 0
-letter_none [] h = refl
-letter_none (x ∷ f) h = absurd (omega arith)
 
 pub kept_by : (letter : ℕ) (t f b b' : List ℕ) → letter ≡ get_or f 0 0 → t ≡ field 3 (text_most + 2) f → b' ≡ put_text (letter * text_most + 1) t b → b' ≡ kept f b
 unfolding kept

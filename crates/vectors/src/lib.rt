@@ -1,74 +1,67 @@
-// The files of vectors: where a part of a line ends, marks in it, texts laid out by the letters that name them, and a place
-// changed.
+//! The files of vectors: where a part of a line ends, marks in it, texts laid out by the letters that name them, and a place
+//! changed; and the program that answers one.
 #![tactic(auto)]
+
+pub mod answer;
+mod each;
+pub mod program;
 
 ghost use Rattle.std.specs.Prelude.{◌≡◌, ◌+◌, ◌-◌, ◌*◌, ◌≤◌, length, get_or};
 ghost use Rattle.writing.specs.Put.{put_field};
 ghost use Rattle.vectors.specs.Vectors.{text_most, samples_length, marked, fits, put_text, sample};
 ghost use Rattle.vectors.specs.Promises.{Before, Mark, Change, Keep, Lay};
 
-// The most bytes that a text with a letter has.
+/// The most bytes that a text with a letter has.
 pub const WIDTH: usize = 168;
 
-// Its last position, behind its letter and a blank.
+/// Its last position, behind its letter and a blank.
 const TEXT_TO: usize = WIDTH + 2;
 
-// The bytes of the texts of all letters.
+/// The bytes of the texts of all letters.
 pub const SAMPLES: usize = 256 * WIDTH;
 
-// How many bytes stand in front of the first `end`.
+/// How many bytes stand in front of the first `end`.
 pub fn before(s: &[u8], end: u8) -> usize
     ensures { Before s.now end result }
 {
-    let mut i: usize = 0;
-    while i < s.len() {
-        if s[i] == end {
+    for (i, &b) in s.iter().enumerate() {
+        if b == end {
             return i;
         }
-        i += 1;
     }
-    i
+    s.len()
 }
 
-// What a byte of a vector stands for: ~ for LF, ^ for CR.
+/// What a byte of a vector stands for: ~ for LF, ^ for CR.
+#[tactic(auto, unfolding(crate::specs::Vectors::marked))]
 fn marked(b: u8) -> u8
     ensures { result ≡ marked b }
 {
-    if b == 126 {
-        return 10;
+    match b {
+        b'~' => b'\n',
+        b'^' => b'\r',
+        _ => b,
     }
-    if b == 94 {
-        return 13;
-    }
-    b
 }
 
-// The bytes of a line turned into those that they stand for, once, when it is read.
+/// The bytes of a line turned into those that they stand for, once, when it is read.
 pub fn mark(line: &mut [u8])
     ensures { Mark line.old line.new }
 {
-    let mut i: usize = 0;
-    while i < line.len() {
-        let b = marked(line[i]);
-        line[i] = b;
-        i += 1;
+    for i in 0..line.len() {
+        line[i] = marked(line[i]);
     }
 }
 
-// Do n bytes from a position on lie within so many.
+/// Do n bytes from a position on lie within so many.
+#[tactic(auto, unfolding(crate::specs::Vectors::fits))]
 fn fits(from: usize, n: usize, room: usize) -> bool
     ensures { result ≡ fits from n room }
 {
-    if from == 0 {
-        return false;
-    }
-    if room < n {
-        return false;
-    }
-    from - 1 <= room - n
+    1 <= from && n <= room && from - 1 <= room - n
 }
 
-// A text over a block from a position on, where it lies within it.
+/// A text over a block from a position on, where it lies within it.
 fn put_text(to: &mut [u8], from: usize, text: &[u8])
     ensures { to.new ≡ put_text from text.now to.old }
 {
@@ -77,7 +70,7 @@ fn put_text(to: &mut [u8], from: usize, text: &[u8])
     }
 }
 
-// A change of a block: a position in three digits, a blank, and the text that goes there.
+/// A change of a block: a position in three digits, a blank, and the text that goes there.
 pub fn change(to: &mut [u8], f: &[u8])
     ensures { Change to.old f.now to.new }
 {
@@ -85,17 +78,14 @@ pub fn change(to: &mut [u8], f: &[u8])
     put_text(to, from, texts::field(f, 5, 65536));
 }
 
-// The byte in front, and 0 where there is none.
+/// The byte in front, and 0 where there is none.
 fn letter_of(f: &[u8]) -> u8
     ensures { result ≡ get_or f.now 0 0 }
 {
-    if f.len() == 0 {
-        return 0;
-    }
-    f[0]
+    f.first().copied().unwrap_or(0)
 }
 
-// A text with its letter: the letter, a blank, the text, of which no byte comes under another letter.
+/// A text with its letter: the letter, a blank, the text, of which no byte comes under another letter.
 pub fn keep(samples: &mut [u8], f: &[u8])
     ensures { Keep samples.old f.now samples.new }
 {
@@ -107,7 +97,7 @@ pub fn keep(samples: &mut [u8], f: &[u8])
     );
 }
 
-// The first bytes of the text that a letter names, from a position on.
+/// The first bytes of the text that a letter names, from a position on.
 fn lay_one(to: &mut [u8], from: usize, width: usize, samples: &[u8], letter: u8)
     requires { ((1 ≤ from) × (from - 1 + width ≤ length to.old)) × ((width ≤ text_most) × (length samples.now ≡ samples_length)) }
     ensures { to.new ≡ put_field from (sample width samples.now letter) to.old }
@@ -116,16 +106,14 @@ fn lay_one(to: &mut [u8], from: usize, width: usize, samples: &[u8], letter: u8)
     writing::put_field(to, from, &text[0..width]);
 }
 
-// The texts that the letters name, each by its first bytes, one behind the other from a position on.
+/// The texts that the letters name, each by its first bytes, one behind the other from a position on.
 pub fn lay(to: &mut [u8], from: usize, width: usize, samples: &[u8], letters: &[u8])
     requires { ((1 ≤ from) × (from - 1 + length letters.now * width ≤ length to.old)) × ((width ≤ text_most) × (length samples.now ≡ samples_length)) }
     ensures { Lay to.old from width samples.now letters.now to.new }
 {
     let mut at = from;
-    let mut i: usize = 0;
-    while i < letters.len() {
-        lay_one(to, at, width, samples, letters[i]);
+    for &letter in letters {
+        lay_one(to, at, width, samples, letter);
         at += width;
-        i += 1;
     }
 }

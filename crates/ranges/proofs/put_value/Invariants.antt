@@ -5,6 +5,3 @@ use Rattle.ranges.proofs.put_value.Given as goal
 
 abbrev pub invariant-loop-i : goal.invariant-loop-i
 invariant-loop-i l = Valuing l.kind l.each l.first l.v (length l.initial.run) l.run l.i l.left
-
-abbrev pub decreases-loop-i : goal.decreases-loop-i
-decreases-loop-i l = l.i

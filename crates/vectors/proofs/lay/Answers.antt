@@ -4,21 +4,21 @@ use mathlib.Core.Path.{refl, ◌∙◌}
 use native.Mathlib.Omega.{arith}
 use Rattle.vectors.proofs.lay.Goals as goal
 
-pub loop-i-init : goal.loop-i-init
-loop-i-init c = (omega arith, (refl, laying_start _ _ _ _ _))
+pub loop-letter-init : goal.loop-letter-init
+loop-letter-init c = (refl, laying_start _ _ _ _ _)
 
 pub lay_one-requires : goal.lay_one-requires
 lay_one-requires c = let p = c.requires in
-    (laying_fits _ _ _ _ _ _ _ _ c.loop-i.invariant.1.1 p.0.0 (length c.loop-i.to) (omega (arith, p.0.1, c.loop-i.invariant.1.0)) c.loop-i-test.true, p.1)
+    (laying_fits _ _ _ _ _ _ _ _ c.loop-letter.invariant.1 p.0.0 (length c.loop-letter.to) (omega (arith, p.0.1, c.loop-letter.invariant.0)) c.loop-letter-test.true, p.1)
 
 pub overflow_add-at : goal.overflow_add-at
 overflow_add-at c = let p = c.requires in
-    omega (arith, (laying_fits _ _ _ _ _ _ _ _ c.loop-i.invariant.1.1 p.0.0 (length c.loop-i.to) (omega (arith, p.0.1, c.loop-i.invariant.1.0)) c.loop-i-test.true).1)
+    omega (arith, (laying_fits _ _ _ _ _ _ _ _ c.loop-letter.invariant.1 p.0.0 (length c.loop-letter.to) (omega (arith, p.0.1, c.loop-letter.invariant.0)) c.loop-letter-test.true).1)
 
-pub loop-i-preserved : goal.loop-i-preserved
-loop-i-preserved c = let p = c.requires in
-    let f = laying_fits _ _ _ _ _ _ _ _ c.loop-i.invariant.1.1 p.0.0 (length c.loop-i.to) (omega (arith, p.0.1, c.loop-i.invariant.1.0)) c.loop-i-test.true in
-    (omega arith, (length_laid _ _ _ _ _ _ f.0 f.1 c.lay_one.ensures ∙ c.loop-i.invariant.1.0, laying_turn _ _ _ _ _ _ _ _ c.loop-i.invariant.1.1 c.loop-i-test.true _ c.lay_one.ensures))
+pub loop-letter-preserved : goal.loop-letter-preserved
+loop-letter-preserved c = let p = c.requires in
+    let f = laying_fits _ _ _ _ _ _ _ _ c.loop-letter.invariant.1 p.0.0 (length c.loop-letter.to) (omega (arith, p.0.1, c.loop-letter.invariant.0)) c.loop-letter-test.true in
+    (length_laid _ _ _ _ _ _ f.0 f.1 c.lay_one.ensures ∙ c.loop-letter.invariant.0, laying_turn _ _ _ _ _ _ _ _ c.loop-letter.invariant.1 c.loop-letter-test.true _ c.lay_one.ensures)
 
 pub returns : goal.returns
-returns c = laying_end _ _ _ _ _ c.loop-i.i _ _ c.loop-i.invariant.1.1 (omega arith)
+returns c = laying_end _ _ _ _ _ c.loop-letter.letter-index _ _ c.loop-letter.invariant.1 (omega arith)

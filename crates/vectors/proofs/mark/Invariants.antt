@@ -2,11 +2,7 @@
 use lib.ListN.{length}
 use Rattle.vectors.proofs.Laws.{Marking}
 use mathlib.Core.Path.{◌≡◌}
-use Prim.Native.Nat.{◌≤◌, ◌-◌}
 use Rattle.vectors.proofs.mark.Given as goal
 
 abbrev pub invariant-loop-i : goal.invariant-loop-i
-invariant-loop-i l = (l.i ≤ length l.initial.line) × ((length l.line ≡ length l.initial.line) × Marking l.initial.line l.line l.i)
-
-abbrev pub decreases-loop-i : goal.decreases-loop-i
-decreases-loop-i l = length l.initial.line - l.i
+invariant-loop-i l = (length l.line ≡ length l.initial.line) × Marking l.initial.line l.line l.i
