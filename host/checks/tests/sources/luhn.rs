@@ -24,9 +24,12 @@ fn rows_are_the_manuals_and_the_sources() {
     assert_eq!(digits(behind(&page, "digit")[0]), Vec::from_iter(0..10));
     assert_eq!(digits(behind(&page, "counts")[0]), DOUBLED);
     let row = DOUBLED.map(|entry| entry.to_string()).join(", ");
-    let line = format!("const DOUBLED: [u64; 10] = [{row}];");
-    assert!(page.contains(&format!("\n    {line}\n")), "the page has another line than {line}");
-    assert!(text(&root().join("crates/pans/src/lib.rt")).contains(&format!("\n{line}\n")), "the source has no {line}");
+    let line = format!("table: [{row}],");
+    assert!(page.contains(&format!("\n        {line}\n")), "the page has another line than {line}");
+    assert!(
+        text(&root().join("crates/pans/src/lib.rt")).contains(&format!("\n    {line}\n")),
+        "the source has no {line}"
+    );
 }
 
 #[test]

@@ -4,10 +4,7 @@
 use graftspindle_checks::sources::{files, root, text};
 use std::collections::BTreeSet;
 use std::fs::read_dir;
-use std::path::PathBuf;
-
-/// The one function whose promise leaves what it writes open, so that no law can say that two outcomes are one.
-const OPEN: &str = "sorting::sort";
+use std::path::{Path, PathBuf};
 
 /// `has_text`: `HasText`.
 fn in_capitals(name: &str) -> String {
@@ -15,33 +12,73 @@ fn in_capitals(name: &str) -> String {
     name.split('_').map(word).collect()
 }
 
-/// The one crate that speaks with the system, of which no contract can say what it gives or takes.
-const SYSTEM: &str = "printing";
+/// What speaks with the system, of which no contract can say what it gives or takes: a crate, and the runner of the programs.
+const SYSTEM: [&str; 3] = ["printing/src/lib.rt", "vectors/src/program.rt", "vectors/src/each.rt"];
 
 /// The library crates: those with a lib.rt.
 fn libraries() -> Vec<PathBuf> {
     let crates = read_dir(root().join("crates")).expect("the crates");
-    let is_promised = |c: &PathBuf| c.join("src/lib.rt").exists() && !c.ends_with(SYSTEM);
-    crates.map(|c| c.expect("a crate").path()).filter(is_promised).collect()
+    crates.map(|c| c.expect("a crate").path()).filter(|c| c.join("src/lib.rt").exists()).collect()
 }
 
-/// Each public function of lib.rt with the text from its name to its body.
+/// The sources of a library that make promises.
+fn promising(library: &Path) -> Vec<PathBuf> {
+    let speaks = |file: &PathBuf| SYSTEM.iter().any(|system| file.ends_with(system));
+    files(&library.join("src"), ".rt").into_iter().filter(|file| !speaks(file)).collect()
+}
+
+/// What stands in front of the first character that no name has.
+fn name_in(text: &str) -> &str {
+    text.split(|c: char| !(c.is_alphanumeric() || c == '_')).next().expect("a name")
+}
+
+/// `WorkingDay`: `working_day`.
+fn in_small_letters(name: &str) -> String {
+    let letter = |(i, c): (usize, char)| match c.is_uppercase() {
+        true if i == 0 => c.to_lowercase().to_string(),
+        true => format!("_{}", c.to_lowercase()),
+        false => c.to_string(),
+    };
+    name.chars().enumerate().map(letter).collect()
+}
+
+/// `<'a> Parts<'a> {`: `Parts<'a> {`.
+fn behind_parameters(block: &str) -> &str {
+    let own = block.strip_prefix('<').map_or(block, |rest| rest.split_once('>').expect("parameters").1);
+    own.trim_start()
+}
+
+/// Each public function of a file with the text from its name to its body. A method has its type's name in front of its own.
 fn public(source: &str) -> Vec<(String, String)> {
     let mut all = Vec::new();
     for start in ["\npub fn ", "\npub extern \"C\" fn "] {
         for part in source.split(start).skip(1) {
-            let name = part.split(|c: char| !(c.is_alphanumeric() || c == '_')).next().expect("a name");
-            all.push((name.to_string(), part.split("\n{").next().expect("a contract").to_string()));
+            all.push((name_in(part).to_string(), part.split("\n{").next().expect("a contract").to_string()));
+        }
+    }
+    for block in source.split("\nimpl").skip(1) {
+        let of = in_small_letters(name_in(behind_parameters(block)));
+        for part in block.split("\n}").next().expect("its methods").split("\n    pub fn ").skip(1) {
+            let contract = part.split("\n    {").next().expect("a contract");
+            all.push((format!("{of}_{}", name_in(part)), contract.to_string()));
         }
     }
     all
 }
 
 #[test]
+fn a_method_is_found_under_its_type() {
+    let source = "\npub fn first(a: u64)\n    ensures { First a }\n{\n}\n\nimpl WorkingDay {\n    pub fn number(self) -> u8\n        ensures { WorkingDayNumber self result }\n    {\n    }\n}\n\nfn third() {\n}\n\nimpl<'a> Shelf<'a> {\n    pub fn book(&self) -> &'a [u8]\n        ensures { ShelfBook self result }\n    {\n    }\n}\n";
+    let found: Vec<String> = public(source).into_iter().map(|(name, _)| name).collect();
+    assert_eq!(found, ["first", "working_day_number", "shelf_book"]);
+    assert!(public(source)[1].1.contains("WorkingDayNumber"));
+}
+
+#[test]
 fn each_contract_is_one_promise_with_its_law() {
     let mut count = 0;
     for library in libraries() {
-        for (name, contract) in public(&text(&library.join("src/lib.rt"))) {
+        for (name, contract) in promising(&library).iter().flat_map(|file| public(&text(file))) {
             count += 1;
             let own = in_capitals(&name);
             let called = own.trim_start_matches("Graftspindle").to_string();
@@ -51,10 +88,6 @@ fn each_contract_is_one_promise_with_its_law() {
             let cited = said.split(' ').next().expect("a name");
             assert!(cited == own || cited == called, "{name}: its contract cites {cited}");
             assert!(!said.contains(" × ") && !said.contains('≡'), "{name}: its contract says more than its promise");
-            if format!("{}::{name}", library.file_name().expect("a name").to_string_lossy()) == OPEN {
-                assert!(text(&root().join("docs/PROOFS.md")).contains(&format!("`{OPEN}`")), "{OPEN}: not explained");
-                continue;
-            }
             let laws = text(&library.join("specs/laws/Outcomes.antt"));
             let law = format!("pub {name}_one :");
             let stated = laws.split(&law).nth(1).unwrap_or_else(|| panic!("{name}: no law {law}"));
