@@ -1,2 +1,3 @@
 pub mod Coverage
 pub mod Outcomes
+pub mod Issued

@@ -3,11 +3,12 @@
 #![tactic(auto)]
 
 ghost use Rattle.std.specs.Prelude.{◌≡◌, eqb, take};
-ghost use Rattle.std.specs.List.{list_all, list_any};
+ghost use Rattle.std.specs.List.{list_all, list_any, position};
 ghost use Rattle.theory.specs.Same.{eqs};
 ghost use Rattle.theory.specs.Every.{leading};
 ghost use Rattle.fields.specs.Field.{digit};
-ghost use Rattle.issuers.specs.Rows.{bin, length_of_bin_id, rows_of, row_holds, sent_by, length_of_pan, row_begins, row_fits};
+ghost use Rattle.issuers.specs.Rows.{bin, length_of_bin_id, rows_of, row_holds, sent_by, length_of_pan, row_begins};
+ghost use Rattle.issuers.specs.laws.Issued.{fits_with, issued_in};
 ghost use Rattle.issuers.specs.Promises.{AreRows, IsKnown, IssuedTo};
 
 use texts::Columns;
@@ -121,32 +122,51 @@ fn row_begins(sender: &[u8], pan: &[u8], r: &[u8]) -> bool
     is_sent_by(sender, r) && has_bin(pan, r)
 }
 
-// The row has the PAN's number of digits.
+// The row has this number of digits.
 #[tactic(auto, using(texts::specs::laws::Field::field_most))]
-fn has_digits(pan: &[u8], r: &[u8]) -> bool
-    ensures { result ≡ eqb (length_of_pan r.now) (leading digit pan.now) }
+fn has_digits(digits: u64, r: &[u8]) -> bool
+    ensures { result ≡ eqb (length_of_pan r.now) digits }
 {
-    let digits = characters::digits_in(pan) as u64;
     numbers::number(PAN_LENGTH.of(r)) == digits
 }
 
-#[tactic(auto, unfolding(crate::specs::Rows::row_fits))]
-fn row_fits(sender: &[u8], pan: &[u8], r: &[u8]) -> bool
-    ensures { result ≡ row_fits sender.now pan.now r.now }
+// The row begins the PAN, of so many digits, and has this number of digits.
+#[tactic(auto, unfolding(crate::specs::laws::Issued::fits_with))]
+fn row_fits(sender: &[u8], pan: &[u8], digits: u64, r: &[u8]) -> bool
+    ensures { result ≡ fits_with sender.now pan.now digits r.now }
 {
-    row_begins(sender, pan, r) && has_digits(pan, r)
+    row_begins(sender, pan, r) && has_digits(digits, r)
 }
 
-fn begins(rows: &[[u8; sizes::ROW]], sender: &[u8], pan: &[u8]) -> bool
-    ensures { result ≡ list_any (row_begins sender.now pan.now) rows.now }
+fn first_begins(rows: &[[u8; sizes::ROW]], sender: &[u8], pan: &[u8]) -> Option<usize>
+    ensures { result ≡ position (row_begins sender.now pan.now) rows.now }
 {
-    rows.iter().any(|r| row_begins(sender, pan, r))
+    rows.iter().position(|r| row_begins(sender, pan, r))
 }
 
-fn fits(rows: &[[u8; sizes::ROW]], sender: &[u8], pan: &[u8]) -> bool
-    ensures { result ≡ list_any (row_fits sender.now pan.now) rows.now }
+fn some_fits(rows: &[[u8; sizes::ROW]], sender: &[u8], pan: &[u8], digits: u64) -> bool
+    ensures { result ≡ list_any (fits_with sender.now pan.now digits) rows.now }
 {
-    rows.iter().any(|r| row_fits(sender, pan, r))
+    rows.iter().any(|r| row_fits(sender, pan, digits, r))
+}
+
+// Each row is read once: no row in front of the first that begins the PAN fits it.
+#[tactic(auto, using(crate::proofs::Laws::none_found))]
+fn issued_by(rows: &[[u8; sizes::ROW]], sender: &[u8], pan: &[u8]) -> Issued
+    ensures { result ≡ issued_in sender.now pan.now rows.now }
+{
+    let Some(first) = first_begins(rows, sender, pan) else {
+        return Issued {
+            begins: false,
+            fits: false,
+        };
+    };
+    let digits = characters::digits_in(pan) as u64;
+    Issued {
+        begins: true,
+        fits: has_digits(digits, &rows[first])
+            || some_fits(&rows[first + 1..], sender, pan, digits),
+    }
 }
 
 /// What this PAN finds among the sender's rows.
@@ -154,9 +174,5 @@ fn fits(rows: &[[u8; sizes::ROW]], sender: &[u8], pan: &[u8]) -> bool
 pub fn issued_to(b: &[u8], sender: &[u8], pan: &[u8]) -> Issued
     ensures { IssuedTo b.now sender.now pan.now result }
 {
-    let rows = rows(b);
-    Issued {
-        begins: begins(rows, sender, pan),
-        fits: fits(rows, sender, pan),
-    }
+    issued_by(rows(b), sender, pan)
 }
