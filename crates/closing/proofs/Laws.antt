@@ -42,6 +42,11 @@ moved_within w i k n b h l e =
     (sym (take-append-drop (k * w + w) (paste b (k * w) s w))
     ∙ rw (take-paste b (k * w) s w (omega arith) f, drop-paste b (k * w) s w (omega arith) f) (append_assoc (take (k * w) b) (take w s) (drop (k * w + w) b)))
 
+-- a slot moved to where it is
+pub moved_nowhere : (w i k : ℕ) (b : List ℕ) → k ≡ i → b ≡ put_part w k (part_at w i b) b
+unfolding put_part part_at
+moved_nowhere w i k b e = rw e (sym (rw (← drop-drop w (i * w) b, take-append-drop w (drop (i * w) b)) (take-append-drop (i * w) b)))
+
 -- the free slots behind those that stay
 flat_free : (w m : ℕ) → flat (replicate m (free w)) ≡ replicate (m * w) 0
 unfolding flat free

@@ -10,12 +10,15 @@ ghost use Rattle.theory.specs.laws.CloseUp.{Closing};
 ghost use Rattle.closing.specs.laws.Closing.{stays};
 ghost use Rattle.closing.specs.Promises.{CloseUp};
 
-// The bytes of slot i into slot k.
-#[tactic(auto, using(crate::proofs::Laws::moved_within))]
+// The bytes of slot i into slot k. A slot that is there already is not copied over itself: that would go byte by byte.
+#[tactic(auto, using(crate::proofs::Laws::moved_within, crate::proofs::Laws::moved_nowhere))]
 fn move_slot(block: &mut [u8], i: usize, k: usize)
     requires { (i * slot_length + slot_length ≤ length block.old) × (k ≤ i) }
     ensures { block.new ≡ put_part slot_length k (part_at slot_length i block.old) block.old }
 {
+    if k == i {
+        return;
+    }
     let from = i * sizes::SLOT;
     block.copy_within(from..from + sizes::SLOT, k * sizes::SLOT);
 }
