@@ -39,8 +39,9 @@ pub fn byte(verdict: Result<(), Reason>) -> u8
 fn is_entry(l: &[u8], verdict: u8, pan: &[u8]) -> bool
     ensures { result ≡ eqb verdict 0 && holds_pan pan.now l.now }
 {
-    // Stays: a verdict is the byte that the definition lends for each line, and an option takes twice the stack.
-    verdict == 0 && columns::PAN.has(l, pan)
+    // Stays: a verdict is the byte that the definition lends for each line, and an option takes twice the stack. It is asked
+    // last: nearly every line has another PAN, which the last digits tell at once, in the one loop of the import that is a square.
+    columns::PAN.has(l, pan) && verdict == 0
 }
 
 // Has one of the taken lines, among those that have a verdict, this PAN.
