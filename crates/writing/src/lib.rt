@@ -5,11 +5,15 @@ ghost use Rattle.std.specs.Prelude.{◌≡◌, ◌+◌, ◌-◌, ◌≤◌, leng
 ghost use Rattle.writing.specs.Promises.{Copy, PutField};
 
 /// The bytes of a text into another of its length.
+// Stays a loop: `copy_from_slice` of texts whose lengths are known at run time alone calls the C library's `memmove`, a name that
+// the archive of the writer would newly need.
 pub fn copy(to: &mut [u8], from: &[u8])
     requires { length to.old ≡ length from.now }
     ensures { Copy to.old from.now to.new }
 {
-    to.copy_from_slice(from);
+    for i in 0..from.len() {
+        to[i] = from[i];
+    }
 }
 
 /// A field written into a text from position `from` on, counted from 1.
